@@ -12,7 +12,7 @@ ghost use Rattle.turn_post.specs.Passes.{IsPassOf, Follows, seen};
 ghost use mathlib.Core.List.{IsPrefix};
 
 use crate::bells::{Bells, PLACES, Rung, bit};
-use crate::gate::Gate;
+use crate::gate::{Gate, Who};
 use crate::outgoing::{Sure, Taken};
 use hash_calls::call::Commit;
 use hash_calls::message::Lb;
@@ -206,6 +206,15 @@ fn settle_in<H: Turns>(held: &mut H, alloc: Global, quiet: u64, now: u64) -> Set
     }
 }
 
+/// What there is to say to a session is taken, and whether more may follow.
+fn taken_in<H: Turns>(held: &mut H, session: u32) -> Taken
+    ensures { H.journal held.new ≡ H.journal held.old }
+{
+    let messages = held.take_out(session);
+    let stands = held.stands(session);
+    Taken::new(messages, stands)
+}
+
 /// The bits of those whose session an event may have ended: that of its own session, where it went, and
 /// all where memory was wanting.
 fn gone(went: Went, own: u64) -> u64 {
@@ -296,7 +305,7 @@ impl<H: Turns + Drop, Y: Syncs, G: Gate + Drop, L: Link + Drop> Shared<H, Y, G, 
         ensures { Follows self.now.post pass result.0 }
     {
         let its = session_of(&event);
-        self.gate.before();
+        self.gate.before(Who::of(&event));
         let mut turn = self.post.enter(rt, pass);
         let own = match its {
             Some(session) => bit_of(&*turn.value(), session),
@@ -311,8 +320,8 @@ impl<H: Turns + Drop, Y: Syncs, G: Gate + Drop, L: Link + Drop> Shared<H, Y, G, 
         let waits = its_waits(&*turn.value(), its);
         let pass = turn.leave();
         let pass = self.wake(rt, pass, went, gone(went, own) | said);
-        self.gate.after();
         self.tell_ticker(waits);
+        self.gate.after();
         (pass, went)
     }
 
@@ -381,7 +390,7 @@ impl<H: Turns + Drop, Y: Syncs, G: Gate + Drop, L: Link + Drop> Shared<H, Y, G, 
     {
         let (read, ahead) = record.into_parts();
         let answers = is_answer(&read);
-        self.gate.before();
+        self.gate.before(Who::Reader(session));
         let mut turn = self.post.enter(rt, pass);
         let own = bit_of(&*turn.value(), session);
         turn.value().prepare(ahead);
@@ -389,17 +398,16 @@ impl<H: Turns + Drop, Y: Syncs, G: Gate + Drop, L: Link + Drop> Shared<H, Y, G, 
         turn.value().prepare(None);
         if answers || turn.value().waits(session) {
             let pass = turn.leave();
-            self.gate.after();
             let pass = self.wake(rt, pass, heard, gone(heard, own));
+            self.gate.after();
             return self.settle(rt, pass, session, now);
         }
-        let messages = turn.value().take_out(session);
-        let stands = turn.value().stands(session);
+        let answer = taken_in(turn.value(), session);
         let said = said_in(&*turn.value());
         let pass = turn.leave();
         let pass = self.wake(rt, pass, heard, gone(heard, own) | said);
         self.gate.after();
-        (pass, Taken::new(messages, stands))
+        (pass, answer)
     }
 
     /// A turn in which a pending change is made, if it may be; what there is to say to a session is
@@ -409,20 +417,19 @@ impl<H: Turns + Drop, Y: Syncs, G: Gate + Drop, L: Link + Drop> Shared<H, Y, G, 
         requires timed { now < 2 ^ 63 }
         ensures { Follows self.now.post pass result.0 }
     {
-        self.gate.before();
+        self.gate.before(Who::Reader(session));
         let mut turn = self.post.enter(rt, pass);
         let settled = settle_in(turn.value(), self.alloc, self.quiet, now);
-        let messages = turn.value().take_out(session);
-        let stands = turn.value().stands(session);
+        let taken = taken_in(turn.value(), session);
         let said = said_in(&*turn.value());
         let waits = turn.value().waits(session);
         let pass = turn.leave();
         let went = settled.went;
         let pass = self.wake(rt, pass, went, gone(went, 0) | said);
-        self.gate.after();
         self.tell_ticker(waits);
+        self.gate.after();
         let pass = self.close_spent(rt, pass, settled);
-        (pass, Taken::new(messages, stands))
+        (pass, taken)
     }
 
     /// Ends the sessions that were to be asked for something and have no xid left, from this one on. Their
@@ -469,9 +476,12 @@ impl<H: Turns + Drop, Y: Syncs, G: Gate + Drop, L: Link + Drop> Shared<H, Y, G, 
         requires { IsPassOf self.now.post pass }
         ensures { Follows self.now.post pass result.0 }
     {
+        self.gate.before(Who::Ticker);
         let mut turn = self.post.enter(rt, pass);
         let waits = any_waits(&*turn.value());
-        (turn.leave(), waits)
+        let pass = turn.leave();
+        self.gate.after();
+        (pass, waits)
     }
 
     /// Rings the ticker's bell, where it has to look.
@@ -488,6 +498,7 @@ impl<H: Turns + Drop, Y: Syncs, G: Gate + Drop, L: Link + Drop> Shared<H, Y, G, 
 
     /// Sleeps until the ticker's bell is rung, where it has been rung so often alone.
     pub fn await_tick<W: Wait>(&self, rt: &W, ticks: u64) {
+        self.gate.sleeps(Who::Ticker);
         self.bells.wait_tick(rt, ticks);
     }
 
@@ -502,13 +513,12 @@ impl<H: Turns + Drop, Y: Syncs, G: Gate + Drop, L: Link + Drop> Shared<H, Y, G, 
         requires { IsPassOf self.now.post pass }
         ensures { Follows self.now.post pass result.0 }
     {
-        self.gate.before();
+        self.gate.before(Who::Writer(session));
         let mut turn = self.post.enter(rt, pass);
-        let messages = turn.value().take_out(session);
-        let stands = turn.value().stands(session);
+        let taken = taken_in(turn.value(), session);
         let pass = turn.leave();
         self.gate.after();
-        (pass, Taken::new(messages, stands))
+        (pass, taken)
     }
 
     /// What was taken may go out, once the store is sure of what was made before. Where it can't be,
@@ -548,9 +558,11 @@ impl<H: Turns + Drop, Y: Syncs, G: Gate + Drop, L: Link + Drop> Shared<H, Y, G, 
     {
         let mut pass = pass;
         for _turn in rt.forever() {
+            self.gate.before(Who::Writer(session));
             let mut turn = self.post.enter(rt, pass);
             let quiet = quiet_bell(&self.bells, &*turn.value(), session);
             pass = turn.leave();
+            self.gate.after();
             let Some(rung) = quiet else {
                 return pass;
             };
@@ -558,6 +570,7 @@ impl<H: Turns + Drop, Y: Syncs, G: Gate + Drop, L: Link + Drop> Shared<H, Y, G, 
             if self.is_in_doubt() {
                 return pass;
             }
+            self.gate.sleeps(Who::Writer(session));
             self.bells.wait(rt, rung);
         }
         unreachable!()

@@ -1,10 +1,10 @@
-//! Sessions beside each other, of a server that grants leases: what each line is given, and how many rests
-//! the server took meanwhile.
+//! Sessions beside each other, of a server that grants leases, in an order of turns where one is named: what
+//! each line is given, and how many rests the server took meanwhile.
 
+use crate::gate::TurnGate;
 use crate::outside::store;
 use crate::port::{Port, PortClock, PortNet, PortRest};
 use crate::trial::Trial;
-use lbfs_server::gate::OpenGate;
 use lbfs_server::serve::{ServeError, Served, serve};
 use row_text::out::Out;
 use std::alloc::Global;
@@ -47,8 +47,9 @@ fn run<R: Threads + Wait + Sync + Send + Copy + Drop>(
         rt: *rt,
         port: rests,
     };
+    let gate = TurnGate::new(*rt, alloc, trial, out);
     let (served, store, net) = serve(
-        rt, alloc, store, "DIR", net, &clock, &rest, OpenGate, 7000, TERM, sessions,
+        rt, alloc, store, "DIR", net, &clock, &rest, gate, 7000, TERM, sessions,
     );
     drop(store);
     drop(net);

@@ -4,6 +4,7 @@
 #![tactic(auto)]
 
 mod end;
+mod gate;
 mod hashing;
 mod leases;
 mod line;
