@@ -8,11 +8,7 @@ use Rattle.rpc_record.specs.declared.refusal.Refusal.{Refusal}
 use Rattle.record_ends.proofs.lemmas.Coming.{consumes_more}
 use Rattle.lb_base.specs.Known.{AppendsPrefix}
 use Rattle.lb_base.proofs.lemmas.KnownLemmas.{appends_none}
-use Rattle.lbfs_server.specs.Ends.{IsSpoilt}
-
--- these bytes were taken and these records were given, which stand before all that is to come
-abbrev pub Gave : Kept → List ℕ → List (List ℕ) → Kept → Type 0
-Gave old bytes records new = (more : List ℕ) → coming old (bytes ++ more) ≡ record (coming new more) { records = records ++ (coming new more).records }
+use Rattle.lbfs_server.specs.Ends.{Gave, IsSpoilt}
 
 -- what was taken of what was to come, and what is kept of it
 pub record Taken (before after : Option (List ℕ)) (kept : Kept) : Type 0 where
@@ -21,19 +17,26 @@ pub record Taken (before after : Option (List ℕ)) (kept : Kept) : Type 0 where
   pub consumed : Consumes before after bytes
   pub gave : Gave nothing_kept bytes records kept
 
-consumes_none : (a : Option (List ℕ)) → Consumes a a []
+pub consumes_none : (a : Option (List ℕ)) → Consumes a a []
 consumes_none None = tt
 consumes_none (Some bytes) = refl
 
 pub taken_none : (a : Option (List ℕ)) → Taken a a nothing_kept
 taken_none a = record { bytes = []; records = []; consumed = consumes_none a; gave = λ more. refl }
 
-gave_more : (a b c : Kept) (xs ys : List ℕ) (rs : List (List ℕ)) (r : List ℕ) → Gave a xs rs b → Gives b ys r c → Gave a (xs ++ ys) (rs ++ r ∷ []) c
+pub gave_more : (a b c : Kept) (xs ys : List ℕ) (rs : List (List ℕ)) (r : List ℕ) → Gave a xs rs b → Gives b ys r c → Gave a (xs ++ ys) (rs ++ r ∷ []) c
 gave_more a b c xs ys rs r first second = λ more.
     let moved : coming a ((xs ++ ys) ++ more) ≡ coming a (xs ++ (ys ++ more)) = ap (coming a) (append_assoc xs ys more) in
     let next : record (coming b (ys ++ more)) { records = rs ++ (coming b (ys ++ more)).records } ≡ record (coming c more) { records = rs ++ (r ∷ (coming c more).records) } = ap (λ p. record { records = rs ++ p.records; rest = p.rest; spoilt = p.spoilt }) (second more) in
     let joined : record (coming c more) { records = rs ++ (r ∷ (coming c more).records) } ≡ record (coming c more) { records = (rs ++ r ∷ []) ++ (coming c more).records } = ap (λ z. record { records = z; rest = (coming c more).rest; spoilt = (coming c more).spoilt }) (sym (append_assoc rs (r ∷ []) (coming c more).records)) in
     moved ∙ first (ys ++ more) ∙ next ∙ joined
+
+-- the same where nothing was given of the bytes that were taken last
+pub gave_no_more : (a b c : Kept) (xs ys : List ℕ) (rs : List (List ℕ)) → Gave a xs rs b → Takes b ys c → Gave a (xs ++ ys) rs c
+gave_no_more a b c xs ys rs first second = λ more.
+    let moved : coming a ((xs ++ ys) ++ more) ≡ coming a (xs ++ (ys ++ more)) = ap (coming a) (append_assoc xs ys more) in
+    let next : record (coming b (ys ++ more)) { records = rs ++ (coming b (ys ++ more)).records } ≡ record (coming c more) { records = rs ++ (coming c more).records } = ap (λ p. record { records = rs ++ p.records; rest = p.rest; spoilt = p.spoilt }) (second more) in
+    moved ∙ first (ys ++ more) ∙ next
 
 pub taken_more : (before between after : Option (List ℕ)) (kept new : Kept) (bytes r : List ℕ) → Taken before between kept → Consumes between after bytes → Gives kept bytes r new → Taken before after new
 taken_more before between after kept new bytes r w consumed gives = record {

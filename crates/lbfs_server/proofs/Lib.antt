@@ -1,4 +1,5 @@
 pub mod Following
 pub mod Giving
+pub mod Hearing
 pub mod Serving
 pub mod lemmas

@@ -1,7 +1,11 @@
 -- Why a loop over a link's records ended, and how many links were taken.
-use Rattle.std.specs.Prelude.{◌≡◌, ℕ, ◌+◌, ◌-◌, ◌^◌, ◌≤◌, min, List, Option, None}
+use Rattle.std.specs.Prelude.{◌≡◌, ℕ, ◌+◌, ◌-◌, ◌^◌, ◌≤◌, ◌++◌, min, List, Option, None}
 use Rattle.std.specs.Io.KnownBytes.{Consumes}
-use Rattle.record_ends.specs.Ends.{coming, nothing_kept}
+use Rattle.record_ends.specs.Ends.{Kept, coming, nothing_kept}
+
+-- these bytes were taken and these records were given, which stand before all that is to come
+abbrev pub Gave : Kept → List ℕ → List (List ℕ) → Kept → Type 0
+Gave old bytes records new = (more : List ℕ) → coming old (bytes ++ more) ≡ record (coming new more) { records = records ++ (coming new more).records }
 
 -- of what was to come some bytes were taken, and no record can stand behind these
 abbrev pub IsSpoilt : Option (List ℕ) → Option (List ℕ) → Type 0

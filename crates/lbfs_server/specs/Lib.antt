@@ -1,3 +1,4 @@
 pub mod Ends
 pub mod Serve
 pub mod Telling
+pub mod Turned

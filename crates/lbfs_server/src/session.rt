@@ -1,13 +1,16 @@
 //! What the threads of a session do: one takes records off its link, another puts out what there is
 //! to say. Where there is one thread alone, it does both in turn.
 
-ghost use Rattle.std.specs.Prelude.{◌≡◌, ◌≤◌, IsTrue};
+ghost use Rattle.std.specs.Prelude.{◌≡◌, ◌⊎◌, ◌≤◌, IsTrue};
 ghost use Rattle.std.specs.Io.KnownBytes.{Appends, IsAtEnd};
 ghost use Rattle.lb_base.specs.Causes.{Rose};
 ghost use Rattle.lb_base.specs.Known.{AppendsPrefix};
 ghost use Rattle.record_ends.specs.Ends.{out_bytes};
 ghost use Rattle.record_ends.specs.declared.end.End.TheVariants as ends;
 ghost use Rattle.lbfs_server.specs.Ends.{IsSpoilt};
+ghost use Rattle.lbfs_server.specs.Turned.{InTurn, HearsToEnd};
+ghost use Rattle.server_core.specs.declared.event.Event.TheVariants as event;
+ghost use Rattle.server_held.specs.declared.held.Went.{Went};
 ghost use Rattle.turn_post.specs.Passes.{IsPassOf, Follows};
 
 use crate::gate::Gate;
@@ -88,6 +91,7 @@ fn read_on<W: Wait, H: Turns + Drop, Y: Syncs, G: Gate + Drop, L: Link + Drop, C
     ensures ended { result.1 ≡ ends.InputEnd → IsAtEnd (L.left link.new) }
     ensures failed { result.1 ≡ ends.Failed → Rose (L.faults link.old) (L.faults link.new) }
     ensures spoilt { result.1 ≡ ends.Spoilt → IsSpoilt (L.left link.old) (L.left link.new) }
+    ensures heard { (result.1 ≡ ends.InputEnd) ⊎ (result.1 ≡ ends.Spoilt) → HearsToEnd H.journal H.hears session (L.left link.old) (L.left link.new) pass result.0 }
     ensures out { L.held link.new ≡ L.held link.old }
     ensures later { L.faults link.old ≤ L.faults link.new }
 {
@@ -130,9 +134,11 @@ pub fn session_in<W: Wait, H: Turns + Drop, Y: Syncs, G: Gate + Drop, L: Link + 
 ) -> (Pass<H>, End)
     requires { IsPassOf shared.now.post pass }
     ensures pass { Follows shared.now.post pass result.0 }
+    ensures hung { (said : Went) × InTurn H.journal (λ found left. H.does found (event.Hang session) said left) pass result.0 }
     ensures ended { result.1 ≡ ends.InputEnd → IsAtEnd (L.left link.new) }
     ensures failed { result.1 ≡ ends.Failed → Rose (L.faults link.old) (L.faults link.new) }
     ensures spoilt { result.1 ≡ ends.Spoilt → IsSpoilt (L.left link.old) (L.left link.new) }
+    ensures heard { (result.1 ≡ ends.InputEnd) ⊎ (result.1 ≡ ends.Spoilt) → HearsToEnd H.journal H.hears session (L.left link.old) (L.left link.new) pass result.0 }
     ensures out { L.held link.new ≡ L.held link.old }
     ensures later { L.faults link.old ≤ L.faults link.new }
 {
@@ -221,6 +227,7 @@ fn both_on<W: Wait, H: Turns + Drop, Y: Syncs, G: Gate + Drop, L: Link + Drop, C
     ensures ended { result.1 ≡ ends.InputEnd → IsAtEnd (L.left link.new) }
     ensures failed { result.1 ≡ ends.Failed → Rose (L.faults link.old) (L.faults link.new) }
     ensures spoilt { result.1 ≡ ends.Spoilt → IsSpoilt (L.left link.old) (L.left link.new) }
+    ensures heard { (result.1 ≡ ends.InputEnd) ⊎ (result.1 ≡ ends.Spoilt) → HearsToEnd H.journal H.hears session (L.left link.old) (L.left link.new) pass result.0 }
     ensures later { L.faults link.old ≤ L.faults link.new }
 {
     let mut inbox = match Inbox::new(shared.alloc()) {
@@ -262,9 +269,11 @@ pub fn session_both<W: Wait, H: Turns + Drop, Y: Syncs, G: Gate + Drop, L: Link 
 ) -> (Pass<H>, End)
     requires { IsPassOf shared.now.post pass }
     ensures pass { Follows shared.now.post pass result.0 }
+    ensures hung { (said : Went) × InTurn H.journal (λ found left. H.does found (event.Hang session) said left) pass result.0 }
     ensures ended { result.1 ≡ ends.InputEnd → IsAtEnd (L.left link.new) }
     ensures failed { result.1 ≡ ends.Failed → Rose (L.faults link.old) (L.faults link.new) }
     ensures spoilt { result.1 ≡ ends.Spoilt → IsSpoilt (L.left link.old) (L.left link.new) }
+    ensures heard { (result.1 ≡ ends.InputEnd) ⊎ (result.1 ≡ ends.Spoilt) → HearsToEnd H.journal H.hears session (L.left link.old) (L.left link.new) pass result.0 }
     ensures later { L.faults link.old ≤ L.faults link.new }
 {
     let (pass, end) = both_on(rt, shared, pass, session, link, clock);

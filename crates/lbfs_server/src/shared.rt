@@ -1,13 +1,16 @@
-//! The turns of a server: each locks what the threads share, and changes it by calls of `Turns`. That
-//! a call is what its contract says is proved of `Held`; of a turn no clause speaks, since another
-//! thread's may stand before and behind it.
+//! The turns of a server: each locks what the threads share, and changes it by calls of `Turns`. Another
+//! thread's may stand before and behind it; so a clause says that in some turn behind what the pass had seen a
+//! value did just that (`InTurn`).
 
 ghost use Rattle.std.specs.Prelude.{◌≡◌, true, nat_le, ◌<◌, ◌^◌, [], ◌∷◌, length, All, Contains, OnOk, IfOk};
 ghost use Rattle.std.specs.List.Sorted.{IsPermutation};
 ghost use Rattle.lbfs_server.specs.Telling.{any_tells};
+ghost use Rattle.lbfs_server.specs.Turned.{InTurn, IsHeard};
 ghost use Rattle.lbfs_server.specs.declared.shared.SessionLink.{SessionLink};
 ghost use Rattle.server_core.specs.Step.{IsTimed};
 ghost use Rattle.server_law.specs.Growth.{MayAdd};
+ghost use Rattle.server_held.specs.Held.{server_waits};
+ghost use Rattle.wire.specs.Parse.{parse_of, IsParsed};
 ghost use Rattle.turn_post.specs.Passes.{IsPassOf, Follows, seen};
 ghost use mathlib.Core.List.{IsPrefix};
 
@@ -90,7 +93,9 @@ impl Prepared {
         is_answer(&self.read)
     }
 
-    fn into_parts(self) -> (Result<Message, WireError>, Option<Content>) {
+    fn into_parts(self) -> (Result<Message, WireError>, Option<Content>)
+        ensures { result ≡ (self.read, self.ahead) }
+    {
         let Prepared { read, ahead } = self;
         (read, ahead)
     }
@@ -206,6 +211,26 @@ fn settle_in<H: Turns>(held: &mut H, alloc: Global, quiet: u64, now: u64) -> Set
     }
 }
 
+/// A record of a session is heard, with what was made of it before.
+fn hear_in<H: Turns>(
+    held: &mut H,
+    alloc: Global,
+    session: u32,
+    bytes: &[u8],
+    prepared: Prepared,
+    now: u64,
+) -> Went
+    requires { now < 2 ^ 63 }
+    ensures heard { IsParsed prepared.read (parse_of server_waits bytes.now) → H.hears held.old session bytes.now now result held.new }
+    ensures grows { MayAdd (H.journal held.old) (H.journal held.new) }
+{
+    let (read, ahead) = prepared.into_parts();
+    held.prepare(ahead);
+    let heard = held.heard(alloc, session, bytes, read, now);
+    held.prepare(None);
+    heard
+}
+
 /// What there is to say to a session is taken, and whether more may follow.
 fn taken_in<H: Turns>(held: &mut H, session: u32) -> Taken
     ensures { H.journal held.new ≡ H.journal held.old }
@@ -302,7 +327,8 @@ impl<H: Turns + Drop, Y: Syncs, G: Gate + Drop, L: Link + Drop> Shared<H, Y, G, 
     pub fn event<W: Wait>(&self, rt: &W, pass: Pass<H>, event: Event) -> (Pass<H>, Went)
         requires pass { IsPassOf self.now.post pass }
         requires timed { IsTimed event }
-        ensures { Follows self.now.post pass result.0 }
+        ensures follows { Follows self.now.post pass result.0 }
+        ensures did { InTurn H.journal (λ found left. H.does found event result.1 left) pass result.0 }
     {
         let its = session_of(&event);
         self.gate.before(Who::of(&event));
@@ -363,7 +389,8 @@ impl<H: Turns + Drop, Y: Syncs, G: Gate + Drop, L: Link + Drop> Shared<H, Y, G, 
         bytes: &[u8],
     ) -> (Pass<H>, Prepared)
         requires { IsPassOf self.now.post pass }
-        ensures { Follows self.now.post pass result.0 }
+        ensures follows { Follows self.now.post pass result.0 }
+        ensures parsed { IsParsed result.1.read (parse_of server_waits bytes.now) }
     {
         let read = read_record(self.alloc, bytes);
         let (pass, ahead) = self.ahead(rt, pass, session, &read);
@@ -380,22 +407,20 @@ impl<H: Turns + Drop, Y: Syncs, G: Gate + Drop, L: Link + Drop> Shared<H, Y, G, 
         pass: Pass<H>,
         session: u32,
         bytes: &[u8],
-        record: Prepared,
+        prepared: Prepared,
         now: u64,
         _link: &L,
     ) -> (Pass<H>, Taken)
         requires pass { IsPassOf self.now.post pass }
         requires timed { now < 2 ^ 63 }
-        ensures { Follows self.now.post pass result.0 }
+        ensures follows { Follows self.now.post pass result.0 }
+        ensures heard { IsParsed prepared.read (parse_of server_waits bytes.now) → IsHeard H.journal H.hears session bytes.now pass result.0 }
     {
-        let (read, ahead) = record.into_parts();
-        let answers = is_answer(&read);
+        let answers = prepared.answers();
         self.gate.before(Who::Reader(session));
         let mut turn = self.post.enter(rt, pass);
         let own = bit_of(&*turn.value(), session);
-        turn.value().prepare(ahead);
-        let heard = turn.value().heard(self.alloc, session, bytes, read, now);
-        turn.value().prepare(None);
+        let heard = hear_in(turn.value(), self.alloc, session, bytes, prepared, now);
         if answers || turn.value().waits(session) {
             let pass = turn.leave();
             let pass = self.wake(rt, pass, heard, gone(heard, own));

@@ -331,6 +331,10 @@ impl<S: Store + Drop> Journaled for SharedServer<S> {
 }
 
 impl<S: Store + Drop> Turns for SharedServer<S> {
+    ghost does = { λ old event said new. After S.records S.faults old event said new };
+
+    ghost hears = { λ old session bytes now said new. HeardOrLeft S.records S.faults old session now (parse_of (waits_for old session) bytes) said new };
+
     /// Whether a session stands.
     fn stands(&self, session: u32) -> bool
         ensures some { IsTrue result → (messages : List Message) × Holds self.now.boxes session messages }

@@ -1,9 +1,14 @@
-//! What a turn asks of that which the threads of a server share. It is `Held`; the turns and the loops
-//! are written for any such thing, and so none of them is checked with all that a server consists of.
+//! What a turn asks of that which the threads of a server share. It is `SharedServer`; the turns and the loops
+//! are written for any such thing, and so none of them is checked with all that a server consists of. What an
+//! event and a record make is a relation of the thing's own (`does`, `hears`), which a loop owes by these.
 
-ghost use Rattle.std.specs.Prelude.{◌≡◌, ◌<◌, ◌^◌};
+ghost use Rattle.std.specs.Prelude.{◌≡◌, ℕ, ◌<◌, ◌^◌, List};
 ghost use Rattle.server_law.specs.Growth.{MayAdd};
 ghost use Rattle.server_core.specs.Step.{IsTimed};
+ghost use Rattle.server_core.specs.declared.event.Event.{Event};
+ghost use Rattle.server_held.specs.Held.{server_waits};
+ghost use Rattle.server_held.specs.declared.held.Went.{Went};
+ghost use Rattle.wire.specs.Parse.{parse_of, IsParsed};
 
 use crate::held::Went;
 use hash_calls::call::Commit;
@@ -15,8 +20,14 @@ use turn_post::journaled::Journaled;
 use wire::fault::WireError;
 use wire::message::Message;
 
-/// What a turn asks; `Held` says what each call does.
+/// What a turn asks; `SharedServer` says what each call does.
 pub trait Turns: Journaled {
+    /// What an event makes, and what is said of it.
+    ghost does: { Self → Event → Went → Self → Type 0 };
+
+    /// What a record of a session makes at a reading, and what is said of it.
+    ghost hears: { Self → ℕ → List ℕ → ℕ → Went → Self → Type 0 };
+
     /// Whether a session stands.
     fn stands(&self, session: u32) -> bool;
 
@@ -41,9 +52,10 @@ pub trait Turns: Journaled {
     /// One event of the server.
     fn event(&mut self, alloc: Global, event: Event) -> Went
         requires { IsTimed event }
-        ensures { MayAdd (Self.journal self.old) (Self.journal self.new) };
+        ensures after { does self.old event result self.new }
+        ensures grows { MayAdd (Self.journal self.old) (Self.journal self.new) };
 
-    /// A record of a session came, and was read before.
+    /// A record of a session came, and was read before, as if nothing had been asked for.
     fn heard(
         &mut self,
         alloc: Global,
@@ -53,15 +65,16 @@ pub trait Turns: Journaled {
         now: u64,
     ) -> Went
         requires { now < 2 ^ 63 }
-        ensures { MayAdd (Self.journal self.old) (Self.journal self.new) };
+        ensures heard { IsParsed read (parse_of server_waits bytes.now) → hears self.old session bytes.now now result self.new }
+        ensures grows { MayAdd (Self.journal self.old) (Self.journal self.new) };
 
     /// An owner of the whole content of a temporary file of a session.
     fn share_temp(&mut self, session: u32, commit: &Commit) -> Option<SharedBytes>
-        ensures { Self.journal self.new ≡ Self.journal self.old };
+        ensures { self.new ≡ self.old };
 
     /// Keeps a content that was made ahead, or none.
     fn prepare(&mut self, ahead: Option<Content>)
-        ensures { Self.journal self.new ≡ Self.journal self.old };
+        ensures { self.new ≡ self.old };
 
     /// All that is to be said to a session.
     fn take_out(&mut self, session: u32) -> Vec<Message>

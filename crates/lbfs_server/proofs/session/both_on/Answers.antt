@@ -1,21 +1,28 @@
 use Rattle.std.specs.Prelude.{Err}
 use Rattle.std.proofs.Common.{sym, ap, subst, arith}
+use Rattle.turn_post.specs.Passes.{seen}
+use Rattle.lbfs_server.specs.Turned.{IsHeard, HearsAll}
 use Rattle.lbfs_server.proofs.Following.{follows_self, follows_trans}
 use Rattle.lbfs_server.proofs.Giving.{Taken, taken_none, taken_more, taken_spoilt}
+use Rattle.lbfs_server.proofs.Hearing.{heard_between, hears_none, hears_more, hears_at_end, starved}
 use Rattle.lbfs_server.proofs.session.both_on.Goals as goal
 
 pub loop-turn-init : goal.loop-turn-init
 loop-turn-init g c = record {
   pass = follows_self c.args.shared.now.post c.args.pass c.requires;
   taken = subst (λ k. Taken (g.L.Link.left c.args.link.now) (g.L.Link.left c.args.link.now) k) (sym c.in-Ok.ensures) (taken_none (g.L.Link.left c.args.link.now));
+  heard = subst (λ k. HearsAll g.H.Journaled.journal g.H.Turns.hears c.args.session (g.L.Link.left c.args.link.now) (g.L.Link.left c.args.link.now) k c.args.pass c.args.pass) (sym c.in-Ok.ensures) (hears_none g.H.Journaled.journal g.H.Turns.hears c.args.session (g.L.Link.left c.args.link.now) c.args.pass);
   later = omega arith;
 }
 
 pub loop-turn-preserved : goal.loop-turn-preserved
 loop-turn-preserved g c =
     let given = c.in-Ok-next.ensures.given in record {
-      pass = follows_trans c.args.shared.now.post c.args.pass c.got-next.result.0 c.give_awaited-next.result.0 (follows_trans c.args.shared.now.post c.args.pass c.loop-turn.pass c.got-next.result.0 c.loop-turn.invariant.pass (follows_trans c.args.shared.now.post c.loop-turn.pass c.read-read.result.0 c.got-next.result.0 c.read-read.ensures c.got-next.ensures)) c.give_awaited-next.ensures.pass;
+      pass = follows_trans c.args.shared.now.post c.args.pass c.got-next.result.0 c.give_awaited-next.result.0 (follows_trans c.args.shared.now.post c.args.pass c.loop-turn.pass c.got-next.result.0 c.loop-turn.invariant.pass (follows_trans c.args.shared.now.post c.loop-turn.pass c.read-read.result.0 c.got-next.result.0 c.read-read.ensures.follows c.got-next.ensures.follows)) c.give_awaited-next.ensures.pass;
       taken = subst (λ z. Taken (g.L.Link.left c.args.link.now) z c.next-in-loop-turn.new.self) (sym c.give_awaited-next.ensures.come) (taken_more (g.L.Link.left c.args.link.now) (g.L.Link.left c.loop-turn.link) (g.L.Link.left c.next-in-loop-turn.new.link) c.loop-turn.inbox c.next-in-loop-turn.new.self given.0 _ c.loop-turn.invariant.taken given.1 given.2);
+      heard = subst (λ z. HearsAll g.H.Journaled.journal g.H.Turns.hears c.args.session (g.L.Link.left c.args.link.now) z c.next-in-loop-turn.new.self c.args.pass c.give_awaited-next.result.0) (sym c.give_awaited-next.ensures.come) (hears_more g.H.Journaled.journal g.H.Turns.hears c.args.session (g.L.Link.left c.args.link.now) (g.L.Link.left c.loop-turn.link) (g.L.Link.left c.next-in-loop-turn.new.link) c.loop-turn.inbox c.next-in-loop-turn.new.self given.0 _ c.args.pass c.loop-turn.pass c.give_awaited-next.result.0 c.loop-turn.invariant.heard given.1 given.2
+          (subst (λ bytes. IsHeard g.H.Journaled.journal g.H.Turns.hears c.args.session bytes c.loop-turn.pass c.give_awaited-next.result.0) c.as_slice.ensures
+          (heard_between g.H.Journaled.journal g.H.Turns.hears c.args.session c.as_slice.result.now c.loop-turn.pass c.read-read.result.0 c.got-next.result.0 c.give_awaited-next.result.0 c.read-read.ensures.follows.1 (c.got-next.ensures.heard c.read-read.ensures.parsed) c.give_awaited-next.ensures.pass.1)));
       later = omega (arith, c.loop-turn.invariant.later, c.in-Ok-next.ensures.later, c.give_awaited-next.ensures.later);
     }
 
@@ -32,3 +39,10 @@ returns-in-Err-next-clause-failed g c = λ is. let rose = (c.in-Err-next.ensures
 
 pub returns-in-Err-next-clause-later : goal.returns-in-Err-next-clause-later
 returns-in-Err-next-clause-later g c = omega (arith, c.loop-turn.invariant.later, c.in-Err-next.ensures.later)
+
+pub returns-in-Err-clause-heard : goal.returns-in-Err-clause-heard
+returns-in-Err-clause-heard g c = starved
+
+pub returns-in-Err-next-clause-heard : goal.returns-in-Err-next-clause-heard
+returns-in-Err-next-clause-heard g c = hears_at_end g.H.Journaled.journal g.H.Turns.hears c.args.session (g.L.Link.left c.args.link.now) (g.L.Link.left c.loop-turn.link) (g.L.Link.left c.next-in-loop-turn.new.link) c.loop-turn.inbox c.next-in-loop-turn.new.self c.in-Err-next.end c.args.pass c.loop-turn.pass c.loop-turn.invariant.heard
+    (λ is. c.in-Err-next.ensures.ended (ap Err is)) (λ is. c.in-Err-next.ensures.spoilt (ap Err is))

@@ -1,0 +1,88 @@
+-- Records that were heard in turns, one after the other.
+use Rattle.std.specs.Prelude.{◌≡◌, ◌⊎◌, ℕ, List, [], ◌∷◌, ◌++◌, Option, None}
+use Rattle.std.proofs.Common.{refl, inl, inr}
+use Rattle.std.specs.Io.KnownBytes.{Consumes, IsAtEnd}
+use mathlib.Core.List.{IsPrefix}
+use Rattle.record_ends.specs.Ends.{Kept, nothing_kept, Gives, Takes}
+use Rattle.record_ends.specs.declared.end.End.{End}
+use Rattle.record_ends.specs.declared.end.End.TheVariants as ends
+use Rattle.record_ends.proofs.lemmas.Coming.{consumes_more}
+use Rattle.turn_post.proofs.lemmas.Fronts.{prefix_self, prefix_trans}
+use Rattle.turn_post.specs.declared.journaled.Journaled.{Ghosts}
+use Rattle.turn_post.specs.declared.post.Pass.{Pass}
+use Rattle.turn_post.specs.Passes.{seen}
+use Rattle.server_held.specs.declared.held.Went.{Went}
+use Rattle.lbfs_server.specs.Turned.{InTurn, IsHeard, AreHeard, HearsAll, HearsToEnd}
+use Rattle.lbfs_server.proofs.Giving.{consumes_none, gave_more, gave_no_more}
+
+module _ {V E : Type 0} {g : Ghosts V E} (journal : V → List E) where
+  -- what a turn did it did between any two passes, of which the one had seen no more before, and the other no less behind
+  pub turned_between : (did : V → V → Type 0) (p m n q : Pass V E g) → IsPrefix (seen p) (seen m) → InTurn journal did m n → IsPrefix (seen n) (seen q) → InTurn journal did p q
+  turned_between did p m n q first turn last = record {
+    found = turn.found;
+    left = turn.left;
+    begins = prefix_trans (seen p) (seen m) (journal turn.found) first turn.begins;
+    done = turn.done;
+    ends = prefix_trans (journal turn.left) (seen n) (seen q) turn.ends last;
+  }
+
+module _ {V E : Type 0} {g : Ghosts V E} (journal : V → List E) (hears : V → ℕ → List ℕ → ℕ → Went → V → Type 0) (session : ℕ) where
+  pub heard_between : (bytes : List ℕ) (p m n q : Pass V E g) → IsPrefix (seen p) (seen m) → IsHeard journal hears session bytes m n → IsPrefix (seen n) (seen q) → IsHeard journal hears session bytes p q
+  heard_between bytes p m n q first heard last = (heard.0, heard.1, turned_between journal (λ found left. hears found session bytes heard.0 heard.1 left) p m n q first heard.2 last)
+
+  heard_then : (records : List (List ℕ)) (p m q : Pass V E g) → AreHeard journal hears session records p m → IsPrefix (seen m) (seen q) → AreHeard journal hears session records p q
+  heard_then [] p m q same last = prefix_trans (seen p) (seen m) (seen q) same last
+  heard_then (bytes ∷ later) p m q all last = (all.0, all.1, heard_then later all.0 m q all.2 last)
+
+  heard_more : (records : List (List ℕ)) (bytes : List ℕ) (p m q : Pass V E g) → AreHeard journal hears session records p m → IsHeard journal hears session bytes m q → AreHeard journal hears session (records ++ bytes ∷ []) p q
+  heard_more [] bytes p m q same heard = (q, heard_between bytes p m q q same heard (prefix_self (seen q)), prefix_self (seen q))
+  heard_more (first ∷ later) bytes p m q all heard = (all.0, all.1, heard_more later bytes all.0 m q all.2 heard)
+
+  pub hears_none : (left : Option (List ℕ)) (p : Pass V E g) → HearsAll journal hears session left left nothing_kept p p
+  hears_none left p = record { bytes = []; records = []; consumed = consumes_none left; gave = λ more. refl; heard = prefix_self (seen p) }
+
+  pub hears_more : (before between after : Option (List ℕ)) (kept new : Kept) (bytes r : List ℕ) (p m q : Pass V E g) → HearsAll journal hears session before between kept p m → Consumes between after bytes → Gives kept bytes r new
+      → IsHeard journal hears session r m q → HearsAll journal hears session before after new p q
+  hears_more before between after kept new bytes r p m q all consumed gives heard = record {
+    bytes = all.bytes ++ bytes;
+    records = all.records ++ r ∷ [];
+    consumed = consumes_more before between after all.bytes bytes all.consumed consumed;
+    gave = gave_more nothing_kept kept new all.bytes bytes all.records r all.gave gives;
+    heard = heard_more all.records r p m q all.heard heard;
+  }
+
+  pub hears_to_end : (before between after : Option (List ℕ)) (kept new : Kept) (bytes : List ℕ) (p q : Pass V E g) → HearsAll journal hears session before between kept p q → Consumes between after bytes → Takes kept bytes new
+      → new.waiting ≡ [] → HearsToEnd journal hears session before after p q
+  hears_to_end before between after kept new bytes p q all consumed takes none = (
+    new,
+    none,
+    record {
+      bytes = all.bytes ++ bytes;
+      records = all.records;
+      consumed = consumes_more before between after all.bytes bytes all.consumed consumed;
+      gave = gave_no_more nothing_kept kept new all.bytes bytes all.records all.gave takes;
+      heard = all.heard;
+    },
+  )
+
+  -- a loop over the records of a link ends with them, or with bytes behind which none can stand
+  pub hears_at_end : (before between after : Option (List ℕ)) (kept new : Kept) (end : End) (p q : Pass V E g) → HearsAll journal hears session before between kept p q
+      → (end ≡ ends.InputEnd → (bytes : List ℕ) × Consumes between after bytes × Takes kept bytes new × IsAtEnd after × (new.waiting ≡ []) × (new.unread.spoilt ≡ None))
+      → (end ≡ ends.Spoilt → (bytes : List ℕ) × Consumes between after bytes × Takes kept bytes new × (new.waiting ≡ []) × ¬ (new.unread.spoilt ≡ None))
+      → (end ≡ ends.InputEnd) ⊎ (end ≡ ends.Spoilt) → HearsToEnd journal hears session before after p q
+  hears_at_end before between after kept new end p q all ended spoilt (inl is) = let e = ended is in hears_to_end before between after kept new e.0 p q all e.1 e.2 e.4
+  hears_at_end before between after kept new end p q all ended spoilt (inr is) = let e = spoilt is in hears_to_end before between after kept new e.0 p q all e.1 e.2 e.3
+
+  pub hears_then : (left left' : Option (List ℕ)) (p m q : Pass V E g) → HearsToEnd journal hears session left left' p m → IsPrefix (seen m) (seen q) → HearsToEnd journal hears session left left' p q
+  hears_then left left' p m q all last = (all.0, all.1, record { bytes = all.2.bytes; records = all.2.records; consumed = all.2.consumed; gave = all.2.gave; heard = heard_then all.2.records p m q all.2.heard last })
+
+no_input_end : ◌≡◌ {A = End} ends.Memory ends.InputEnd → ⊥
+no_input_end e = cc
+
+not_spoilt : ◌≡◌ {A = End} ends.Memory ends.Spoilt → ⊥
+not_spoilt e = cc
+
+-- want of memory is neither
+pub starved : {A : Type 0} → (◌≡◌ {A = End} ends.Memory ends.InputEnd) ⊎ (◌≡◌ {A = End} ends.Memory ends.Spoilt) → A
+starved (inl e) = absurd (no_input_end e)
+starved (inr e) = absurd (not_spoilt e)
