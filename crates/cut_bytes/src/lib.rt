@@ -1,7 +1,8 @@
-//! Bytes with several owners, and what was found of them ahead: their chunks, and their digest. Whoever
-//! holds a lock while a content is stored so neither cuts nor hashes it there.
+//! Bytes with several owners, and what was found of them before: their chunks, and their digest. Whoever
+//! holds a lock while a content is stored so neither cuts nor hashes it there, and a content that is kept is
+//! hashed once.
 //!
-//! Contracts see the list of the bytes alone, so nothing that is told depends on what was found ahead.
+//! Contracts see the list of the bytes alone, so nothing that is told depends on what was found before.
 #![tactic(auto)]
 
 ghost use Rattle.std.specs.Prelude.{◌≡◌, [], length, IfOk};
@@ -14,36 +15,24 @@ use shared_bytes::SharedBytes;
 use std::alloc::{AllocError, Global};
 use std::marker::Model;
 
-/// What is found of a content.
-struct Cut {
-    chunks: Items<Chunk>,
-    digest: [u8; 20],
-}
-
-// By hand: docs/proving/dropping.md.
-impl Drop for Cut {
-    fn drop(self) {
-        let Cut {
-            chunks,
-            digest: _digest,
-        } = self;
-        drop(chunks);
-    }
-}
-
-/// One owner of some bytes, with their chunks and their digest where these were found ahead. Contracts see
-/// the list of the bytes.
+/// One owner of some bytes, with their chunks and their digest where these were found before. Contracts
+/// see the list of the bytes.
 pub struct CutBytes {
     bytes: SharedBytes,
-    cut: Option<Cut>,
+    chunks: Option<Items<Chunk>>,
+    digest: Option<[u8; 20]>,
 }
 
 /// By hand, so that the crates above prove nothing of how the parts are dropped.
 impl Drop for CutBytes {
     fn drop(self) {
-        let CutBytes { bytes, cut } = self;
+        let CutBytes {
+            bytes,
+            chunks,
+            digest: _digest,
+        } = self;
         drop(bytes);
-        drop(cut);
+        drop(chunks);
     }
 }
 
@@ -56,7 +45,7 @@ impl Model for CutBytes {
 
     ghost view = { λ c. c.bytes };
 
-    ghost invariant = { λ c. IfSome c.cut (λ k. (k.chunks ≡ chunks_of c.bytes) × (k.digest ≡ sha1 c.bytes)) };
+    ghost invariant = { λ c. (IfSome c.chunks (λ k. k ≡ chunks_of c.bytes)) × (IfSome c.digest (λ d. d ≡ sha1 c.bytes)) };
 }
 
 impl CutBytes {
@@ -71,7 +60,11 @@ impl CutBytes {
     pub fn whole(bytes: SharedBytes) -> CutBytes
         ensures { result ≡ bytes }
     {
-        CutBytes { bytes, cut: None }
+        CutBytes {
+            bytes,
+            chunks: None,
+            digest: None,
+        }
     }
 
     /// Bytes that are cut and hashed now, and so not again. The one error is running out of memory.
@@ -80,8 +73,29 @@ impl CutBytes {
     {
         let chunks = chunk_cut::cut(alloc, bytes.as_slice())?;
         let digest = chunk_cut::digest(bytes.as_slice());
-        let cut = Some(Cut { chunks, digest });
-        Ok(CutBytes { bytes, cut })
+        Ok(CutBytes {
+            bytes,
+            chunks: Some(chunks),
+            digest: Some(digest),
+        })
+    }
+
+    /// These bytes with their digest, which is found now where it wasn't before, and so not again. It takes no
+    /// memory.
+    pub fn hashed(self) -> CutBytes
+        ensures { result ≡ self }
+    {
+        let found = Some(self.digest());
+        let CutBytes {
+            bytes,
+            chunks,
+            digest: _digest,
+        } = self;
+        CutBytes {
+            bytes,
+            chunks,
+            digest: found,
+        }
     }
 
     /// These bytes, with what was found of others ahead where those are the same.
@@ -102,12 +116,17 @@ impl CutBytes {
         &self.bytes
     }
 
-    /// One more owner of the bytes alone. It copies none and takes no memory; the one error is that of
-    /// `SharedBytes`.
-    pub fn share(&self) -> Result<SharedBytes, AllocError>
+    /// One more owner of the bytes, with their digest where it was found; the chunks stay behind. It copies no
+    /// byte and takes no memory; the one error is that of `SharedBytes`.
+    pub fn share(&self) -> Result<CutBytes, AllocError>
         ensures { IfOk result (λ shared. shared ≡ self.now) }
     {
-        self.bytes.share()
+        let bytes = self.bytes.share()?;
+        Ok(CutBytes {
+            bytes,
+            chunks: None,
+            digest: self.digest,
+        })
     }
 
     /// The bytes as a slice.
@@ -128,8 +147,8 @@ impl CutBytes {
     pub fn chunks(&self, alloc: Global) -> Result<Items<Chunk>, AllocError>
         ensures { IfOk result (λ chunks. chunks ≡ chunks_of self.now) }
     {
-        match &self.cut {
-            Some(cut) => cut.chunks.try_clone(alloc),
+        match &self.chunks {
+            Some(chunks) => chunks.try_clone(alloc),
             None => chunk_cut::cut(alloc, self.bytes.as_slice()),
         }
     }
@@ -138,8 +157,8 @@ impl CutBytes {
     pub fn digest(&self) -> [u8; 20]
         ensures { result ≡ sha1 self.now }
     {
-        match &self.cut {
-            Some(cut) => cut.digest,
+        match self.digest {
+            Some(digest) => digest,
             None => chunk_cut::digest(self.bytes.as_slice()),
         }
     }

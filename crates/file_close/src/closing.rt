@@ -330,7 +330,7 @@ pub fn closed(
     ensures done { result.missed ≡ false }
     ensures sound { IsSound state.new }
 {
-    let content = state.take_local(file);
+    let content = state.take_local(file).hashed();
     let step = stores::closed(alloc, file, version, &content, xid);
     state.cache.keep_cut(file, version, content);
     state.forget(alloc, xid);

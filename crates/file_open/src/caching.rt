@@ -14,7 +14,6 @@ use client_cache::cache::Cache;
 use client_state::task::Fetch;
 use cut_bytes::CutBytes;
 use lb_base::items::Bytes;
-use shared_bytes::SharedBytes;
 use std::alloc::{AllocError, Global};
 use transfer_rules::pieces;
 
@@ -56,7 +55,7 @@ pub fn fresh(cache: &Cache, file: u64, now: u64) -> Option<(u64, &CutBytes)>
 
 /// One more owner of the content that is kept of a file in this version. Nothing is in version 0, which
 /// no file has: what is kept in it is no file's, so a server that tells it doesn't open that.
-pub fn content_in(cache: &Cache, file: u64, version: u64) -> Result<Option<SharedBytes>, AllocError>
+pub fn content_in(cache: &Cache, file: u64, version: u64) -> Result<Option<CutBytes>, AllocError>
     ensures { IfOk result (λ bytes. bytes ≡ content_in version (content_of cache.now file)) }
 {
     let Some((kept, bytes)) = cache.content(file) else {

@@ -18,18 +18,18 @@ use crate::{caching, opening};
 use client_state::parts;
 use client_state::state::ClientState;
 use client_state::step::{ClientStep, Outcome};
-use sha1::Sha1;
-use shared_bytes::SharedBytes;
+use cut_bytes::CutBytes;
 use std::alloc::{AllocError, Global};
 
 /// A file is open with this content, which its open tells, resting on the call with this xid, after
-/// so many bytes of a READ came. An `Err` changes nothing.
+/// so many bytes of a READ came. The content is hashed only where its digest isn't known. An `Err` changes
+/// nothing.
 fn put_open(
     alloc: Global,
     state: &mut ClientState,
     file: u64,
     version: u64,
-    content: SharedBytes,
+    content: CutBytes,
     rests_on: u32,
     bytes: u64,
 ) -> Result<ClientStep, AllocError>
@@ -45,19 +45,19 @@ fn put_open(
     ensures held { IsHeld state.new }
 {
     let len = content.len() as u64;
-    let sha1 = Sha1::digest(content.as_slice());
-    state.put(file, version, content)?;
+    let sha1 = content.digest();
+    state.put_cut(file, version, content)?;
     let outcome = Outcome::Opened { file, len, sha1 };
     Ok(parts::ends(alloc, outcome, rests_on, bytes))
 }
 
-/// As `put_open`, and the content is kept. An `Err` changes nothing.
+/// As `put_open`, and the content is kept, with its digest where that is known. An `Err` changes nothing.
 pub fn keep_open(
     alloc: Global,
     state: &mut ClientState,
     file: u64,
     version: u64,
-    content: SharedBytes,
+    content: CutBytes,
     rests_on: u32,
     bytes: u64,
 ) -> Result<ClientStep, AllocError>
@@ -73,7 +73,7 @@ pub fn keep_open(
 {
     let kept = content.share()?;
     let step = put_open(alloc, state, file, version, content, rests_on, bytes)?;
-    state.cache.keep(file, version, kept);
+    state.cache.keep_cut(file, version, kept);
     Ok(step)
 }
 
@@ -85,7 +85,7 @@ pub fn use_kept(
     file: u64,
     xid: u32,
     version: u64,
-    bytes: SharedBytes,
+    bytes: CutBytes,
     rests_on: u32,
 ) -> Result<ClientStep, AllocError>
     requires held { IsHeld state.old }
@@ -108,7 +108,7 @@ pub fn open_fresh(
     state: &mut ClientState,
     file: u64,
     version: u64,
-    bytes: SharedBytes,
+    bytes: CutBytes,
 ) -> Result<ClientStep, AllocError>
     requires sound { IsSound state.old }
     requires idle { state.old.task ≡ None }

@@ -19,6 +19,7 @@ use client_state::parts;
 use client_state::state::ClientState;
 use client_state::step::{BadPeer, ClientStep, Outcome};
 use client_state::task::{Fetch, ReadCall, Stage};
+use cut_bytes::CutBytes;
 use hash_calls::call::Hashes;
 use nfs3_calls::call::Piece;
 use std::alloc::{AllocError, Global};
@@ -152,7 +153,8 @@ fn opened_with(
     ensures sound { OnOk result (IsSound state.new) }
     ensures held { OnErr result (IsHeld state.new) }
 {
-    let content = fetch::slots_bytes(alloc, fetch.slots.as_slice(), fetch.size)?;
+    let all = fetch::slots_bytes(alloc, fetch.slots.as_slice(), fetch.size)?;
+    let content = CutBytes::whole(all).hashed();
     let version = fetch.version;
     let mut step = kept::keep_open(alloc, state, file, version, content, fetch.first, bytes)?;
     let missed = caching::enter_fetched(&mut state.index, file, fetch, from);

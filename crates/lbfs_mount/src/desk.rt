@@ -288,7 +288,7 @@ impl<F: Files + Drop, L: Link + Drop> Desk<F, L> {
     /// does.
     pub(crate) fn read_bytes(&self) -> Option<SharedBytes> {
         match self.mounted.read_bytes() {
-            Some(bytes) => bytes.share().ok(),
+            Some(bytes) => bytes.shared().share().ok(),
             None => None,
         }
     }

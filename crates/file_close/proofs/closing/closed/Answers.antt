@@ -17,33 +17,33 @@ use Rattle.client_state.proofs.lemmas.Pending.{held_cache}
 use Rattle.file_close.proofs.closing.closed.Goals as goal
 
 pub keep_cut-requires : goal.keep_cut-requires
-keep_cut-requires c = subst (λ (es : Entries). IsSome (kept_of es c.args.file)) (sym c.take_local-content.ensures.cache) c.requires.there
+keep_cut-requires c = subst (λ (es : Entries). IsSome (kept_of es c.args.file)) (sym c.take_local.ensures.cache) c.requires.there
 
 pub forget-requires : goal.forget-requires
 forget-requires c =
     let s = c.args.state.now in
-    let t = c.take_local-content.new.self in
-    let content = c.take_local-content.result in
-    let small : length content ≤ file_limit = subst (λ (bytes : List ℕ). length bytes ≤ file_limit) (sym c.take_local-content.ensures.bytes) (local_small s.opened.entries c.args.file c.requires.held.base.locals) in
-    held_cache t c.keep_cut.new.self (record { base = c.take_local-content.ensures.base; task = c.take_local-content.ensures.task ∙ c.requires.held.task }) (subst (λ (es : Entries). All IsKeptBounded es) (sym c.keep_cut.ensures.kept) (bounded_kept t.cache c.args.file c.args.version content c.take_local-content.ensures.base.kept small))
+    let t = c.take_local.new.self in
+    let content = c.hashed-content.result in
+    let small : length content ≤ file_limit = subst (λ (bytes : List ℕ). length bytes ≤ file_limit) (sym (c.hashed-content.ensures ∙ c.take_local.ensures.bytes)) (local_small s.opened.entries c.args.file c.requires.held.base.locals) in
+    held_cache t c.keep_cut.new.self (record { base = c.take_local.ensures.base; task = c.take_local.ensures.task ∙ c.requires.held.task }) (subst (λ (es : Entries). All IsKeptBounded es) (sym c.keep_cut.ensures.kept) (bounded_kept t.cache c.args.file c.args.version content c.take_local.ensures.base.kept small))
 
 pub returns-clause-ok : goal.returns-clause-ok
 returns-clause-ok c =
     let s = c.args.state.now in
-    let t = c.take_local-content.new.self in
+    let t = c.take_local.new.self in
     let file = c.args.file in
     let version = c.args.version in
     let xid = c.args.xid in
-    let content = c.take_local-content.result in
+    let content = c.hashed-content.result in
     let local = local_bytes s.opened.entries file in
     let shut : State = record (state_of s) { opened = without_local s.opened.entries file } in
     let cache : c.keep_cut.new.self ≡ with_content s.cache file version local =
-    c.keep_cut.ensures.kept ∙ (ap (λ (es : Entries). with_content es file version content) c.take_local-content.ensures.cache ∙ ap (λ (bytes : List ℕ). with_content s.cache file version bytes) c.take_local-content.ensures.bytes) in
+    c.keep_cut.ensures.kept ∙ (ap (λ (es : Entries). with_content es file version content) c.take_local.ensures.cache ∙ ap (λ (bytes : List ℕ). with_content s.cache file version bytes) (c.hashed-content.ensures ∙ c.take_local.ensures.bytes)) in
     let state : state_of c.forget.new.self ≡ forgets (record shut { cache = with_content s.cache file version local }) s.waiting.calls xid =
     c.forget.ensures.rest
-    ∙ (ap (λ (r : State). forgets (record r { cache = c.keep_cut.new.self }) t.waiting.calls xid) c.take_local-content.ensures.rest
-    ∙ (ap (λ (w : Waiting). forgets (record shut { cache = c.keep_cut.new.self }) w.calls xid) c.take_local-content.ensures.waiting
+    ∙ (ap (λ (r : State). forgets (record r { cache = c.keep_cut.new.self }) t.waiting.calls xid) c.take_local.ensures.rest
+    ∙ (ap (λ (w : Waiting). forgets (record shut { cache = c.keep_cut.new.self }) w.calls xid) c.take_local.ensures.waiting
     ∙ ap (λ (es : Entries). forgets (record shut { cache = es }) s.waiting.calls xid) cache)) in
     let tells : List ℕ → ClientStep = λ bytes. ends (outcome.Closed file version (length bytes) (sha1 bytes)) xid 0 in
-    let step : c.closed-step.result ≡ tells local = c.closed-step.ensures ∙ ap tells c.take_local-content.ensures.bytes in
+    let step : c.closed-step.result ≡ tells local = c.closed-step.ensures ∙ ap tells (c.hashed-content.ensures ∙ c.take_local.ensures.bytes) in
     sym (ap (λ (r : State). (r, c.closed-step.result)) state ∙ ap (λ (a : ClientStep). (forgets (record shut { cache = with_content s.cache file version local }) s.waiting.calls xid, a)) step)
