@@ -4,7 +4,7 @@
 ghost use Rattle.limits.specs.declared.TheConstants.{FILE_MOST};
 ghost use Rattle.std.specs.Prelude.{◌≡◌, ◌^◌, ◌+◌, ◌<◌, ◌≤◌, ◌++◌, [], length, map, None, Some, IfOk, OnOk, OnErr, false, true};
 ghost use Rattle.client_cache.specs.Cache.{reserved};
-ghost use Rattle.client_state.specs.State.{State, evicted, forged, index_cleared, read_pending, pending, pending_in, has_call, with_local, without_local, local_bytes};
+ghost use Rattle.client_state.specs.State.{State, start_with, evicted, forged, index_cleared, read_pending, pending, pending_in, has_call, with_local, without_local, local_bytes};
 ghost use Rattle.client_state.specs.Ending.{bad_peer, refused, denied, drops, unknown, cut, cut_off, joined, forgets, idle, may_ask, may_walk};
 ghost use Rattle.client_state.specs.View.{state_of, whole_of, IsBase, IsHeld, IsSound, IsThere, StageIsThere, HasXids, IsWithin, open_left, walk_left};
 ghost use Rattle.client_state.specs.declared.task.Stage.TheVariants as stage;
@@ -24,7 +24,7 @@ use std::alloc::{AllocError, Global};
 use std::collections::BTreeMap;
 use std::mem;
 use transfer_rules::{answers, counts};
-use wire::message::{Pending, RpcRefusal, Waiting};
+use wire::message::{Pending, RpcRefusal, Side, Waiting};
 use xdr_codec::status::Status;
 
 /// An operation begins only below this xid, while 1,000,000 of a session are left: it is 2^32 - 999,999.
@@ -40,11 +40,11 @@ const OPEN_CALLS_MOST: u128 = 262_162;
 /// A client's fields.
 pub struct ClientState {
     /// Whether a connection is joined.
-    pub linked: bool,
+    pub(crate) linked: bool,
     /// The xid of the next call on it.
     pub next_xid: u32,
     /// The number of the next temporary file on it.
-    pub next_temp: u32,
+    pub(crate) next_temp: u32,
     /// The open files by their ids.
     pub opened: BTreeMap<u64, Local>,
     /// The operation under way.
@@ -53,7 +53,7 @@ pub struct ClientState {
     /// ended operations and attempts.
     pub waiting: Waiting,
     /// How many of them are of the operation under way.
-    pub own: usize,
+    pub(crate) own: usize,
     /// What is kept of files.
     pub cache: Cache,
     /// Where the bytes of chunks may be found among what is kept.
@@ -61,9 +61,9 @@ pub struct ClientState {
     /// The reading of its clock at the last command or message, in milliseconds.
     pub clock: u64,
     /// The reading at which a call went out last that may bring a lease.
-    pub sent: u64,
+    pub(crate) sent: u64,
     /// How far its clock and the server's may drift apart while a lease lasts, in milliseconds.
-    pub drift: u64,
+    pub(crate) drift: u64,
 }
 
 /// By hand, so that the crates above prove nothing of how the parts are dropped.
@@ -126,6 +126,49 @@ fn walk_left(walk: &Walk) -> u128
 }
 
 impl ClientState {
+    /// A client with no connection and no file, whose clock and the server's may drift apart so far, in
+    /// milliseconds, while a lease lasts, and whose calls are of this version of LBFS. The one error is
+    /// running out of memory.
+    pub fn new(alloc: Global, drift: u64, lbfs: u32) -> Result<ClientState, AllocError>
+        ensures start { IfOk result (λ s. state_of s ≡ start_with drift lbfs) }
+        ensures sound { IfOk result (λ s. IsSound s) }
+    {
+        let cache = Cache::new(alloc)?;
+        let index = chunk_index::places::empty(alloc)?;
+        Ok(ClientState {
+            linked: false,
+            next_xid: 1,
+            next_temp: 1,
+            opened: BTreeMap::new(alloc),
+            task: None,
+            waiting: Waiting {
+                side: Side::Client,
+                lbfs,
+                calls: Items::new(alloc),
+            },
+            own: 0,
+            cache,
+            index,
+            clock: 0,
+            sent: 0,
+            drift,
+        })
+    }
+
+    /// Whether a connection is joined.
+    pub fn linked(&self) -> bool
+        ensures { result ≡ self.now.linked }
+    {
+        self.linked
+    }
+
+    /// The reading at which a call went out last that may bring a lease.
+    pub fn sent(&self) -> u64
+        ensures { result ≡ self.now.sent }
+    {
+        self.sent
+    }
+
     /// Whether an operation may begin: a connection is joined, and has enough xids.
     pub fn may_ask(&self) -> bool
         ensures { result ≡ may_ask (state_of self.now) }
@@ -230,6 +273,24 @@ impl ClientState {
                 Err(error)
             }
         }
+    }
+
+    /// As `wait`, for the MKTMPFILE of the next xid, and tells the number of the temporary file that it asks for,
+    /// which is the next. An `Err` changes nothing.
+    pub fn wait_temp(&mut self, alloc: Global, file: u64) -> Result<u32, AllocError>
+        requires held { IsHeld self.old }
+        requires xids { HasXids (self.old.next_xid + 1) (stage.Making 0 0) }
+        ensures temp { IfOk result (λ temp. temp ≡ self.old.next_temp) }
+        ensures ok { OnOk result (state_of self.new ≡ record (state_of self.old) { next_xid = self.old.next_xid + 1; next_temp = self.old.next_temp + 1; task = Some (record { file = file; stage = stage.Making self.old.next_xid self.old.next_temp }) }) }
+        ensures err { OnErr result (whole_of self.new ≡ whole_of self.old) }
+        ensures sound { OnOk result (IsSound self.new) }
+        ensures held { OnErr result (IsHeld self.new) }
+    {
+        let xid = self.next_xid;
+        let temp = self.next_temp;
+        self.wait(alloc, file, Stage::Making { xid, temp }, xid + 1)?;
+        self.next_temp = temp + 1;
+        Ok(temp)
     }
 
     /// As `wait`, with a call that may bring a lease, for which the file's entry is there in the cache, and

@@ -65,10 +65,8 @@ fn ask_temp(alloc: Global, state: &mut ClientState, file: u64) -> Result<ClientS
 {
     let lbfs = state.waiting.lbfs;
     let xid = state.next_xid;
-    let temp = state.next_temp;
     let handle = Handle::of_file(alloc, file)?;
-    state.wait(alloc, file, Stage::Making { xid, temp }, xid + 1)?;
-    state.next_temp = temp + 1;
+    let temp = state.wait_temp(alloc, file)?;
     let call = messages::make_call(lbfs, xid, temp, handle);
     Ok(parts::sends_one(alloc, call, 0))
 }

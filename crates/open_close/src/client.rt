@@ -23,15 +23,14 @@ use client_state::step::{ClientStep, Ended, Outcome};
 use command_text::command::Command;
 use cut_bytes::CutBytes;
 use file_open::caching;
-use lb_base::items::{Bytes, Items};
+use lb_base::items::Bytes;
 use send_list::SendList;
 use shared_bytes::SharedBytes;
 use std::alloc::{AllocError, Global};
-use std::collections::BTreeMap;
 use std::marker::Model;
 use transfer_rules::counts::no_counts;
 use wire::fault::WireFault;
-use wire::message::{Message, Side, Waiting};
+use wire::message::{Message, Waiting};
 
 /// A client of one connection, with its open files and at most one operation under way.
 pub struct Client {
@@ -81,28 +80,8 @@ impl Client {
     pub fn new(alloc: Global, drift: u64, lbfs: u32) -> Result<Client, AllocError>
         ensures { IfOk result (λ c. c ≡ start_with drift lbfs) }
     {
-        let cache = Cache::new(alloc)?;
-        let index = chunk_index::places::empty(alloc)?;
-        Ok(Client {
-            state: ClientState {
-                linked: false,
-                next_xid: 1,
-                next_temp: 1,
-                opened: BTreeMap::new(alloc),
-                task: None,
-                waiting: Waiting {
-                    side: Side::Client,
-                    lbfs,
-                    calls: Items::new(alloc),
-                },
-                own: 0,
-                cache,
-                index,
-                clock: 0,
-                sent: 0,
-                drift,
-            },
-        })
+        let state = ClientState::new(alloc, drift, lbfs)?;
+        Ok(Client { state })
     }
 
     /// A command, at a reading of the client's clock in milliseconds: it says whether what is kept is fresh,
@@ -280,7 +259,7 @@ impl Client {
     pub fn linked(&self) -> bool
         ensures { result ≡ self.now.linked }
     {
-        self.state.linked
+        self.state.linked()
     }
 
     /// An owner of the local content of an open file, of which others can be made; none where it isn't

@@ -154,7 +154,7 @@ fn took(
     ensures sound { OnOk result (IsSound state.new) }
     ensures held { OnErr result (IsHeld state.new) }
 {
-    let sent = state.sent;
+    let sent = state.sent();
     let file = task.file;
     let granted = lease_in(&task.stage, body);
     match takes(alloc, state, task, xid, body) {
