@@ -2,11 +2,14 @@
 //! says which state they are, and what always holds of them.
 
 ghost use Rattle.limits.specs.declared.TheConstants.{FILE_MOST};
-ghost use Rattle.std.specs.Prelude.{◌≡◌, ◌^◌, ◌+◌, ◌<◌, ◌≤◌, ◌++◌, [], length, map, None, Some, IfOk, OnOk, OnErr, false, true};
+ghost use Rattle.std.specs.Prelude.{◌≡◌, ◌^◌, ◌+◌, ◌<◌, ◌≤◌, ◌++◌, [], length, map, None, Some, IfOk, IfSome, OnOk, OnErr, false, true};
 ghost use Rattle.client_cache.specs.Cache.{reserved};
-ghost use Rattle.client_state.specs.State.{State, start_with, evicted, forged, index_cleared, read_pending, pending, pending_in, has_call, with_local, without_local, local_bytes};
-ghost use Rattle.client_state.specs.Ending.{bad_peer, refused, denied, drops, unknown, cut, cut_off, joined, forgets, idle, may_ask, may_walk};
-ghost use Rattle.client_state.specs.View.{state_of, whole_of, IsBase, IsHeld, IsSound, IsThere, StageIsThere, HasXids, IsWithin, open_left, walk_left};
+ghost use Rattle.client_state.specs.State.{State, start_with, evicted, forged, index_cleared, read_pending, pending, pending_in, has_call, local_at, with_local, without_local, local_bytes};
+ghost use Rattle.client_state.specs.Ending.{bad_peer, refused, denied, drops, unknown, cut, cut_off, joined, forgets, idle, is_open, may_ask, may_walk};
+ghost use Rattle.client_state.specs.View.{state_of, whole_of, IsBase, IsHeld, IsLocalBounded, IsSound, IsThere, StageIsThere, HasXids, IsWithin, open_left, walk_left};
+ghost use Rattle.std.specs.List.{All};
+ghost use Rattle.std.specs.Map.{values_of};
+ghost use Rattle.std.specs.Option.{option_copied};
 ghost use Rattle.client_state.specs.declared.task.Stage.TheVariants as stage;
 
 use crate::step::{BadPeer, ClientStep, Outcome};
@@ -46,7 +49,7 @@ pub struct ClientState {
     /// The number of the next temporary file on it.
     pub(crate) next_temp: u32,
     /// The open files by their ids.
-    pub opened: BTreeMap<u64, Local>,
+    pub(crate) opened: BTreeMap<u64, Local>,
     /// The operation under way.
     pub task: Option<Task>,
     /// The calls that have no answer yet: those of the operation under way, and behind them those of
@@ -160,6 +163,31 @@ impl ClientState {
         ensures { result ≡ self.now.linked }
     {
         self.linked
+    }
+
+    /// Whether the file is open.
+    pub fn is_open(&self, file: u64) -> bool
+        ensures { result ≡ is_open self.now.opened.entries file }
+    {
+        parts::is_open(&self.opened, file)
+    }
+
+    /// The open file, which is within the limit of a file.
+    pub fn local(&self, file: u64) -> Option<&Local>
+        requires { All IsLocalBounded (values_of self.now.opened.entries) }
+        ensures found { option_copied result ≡ local_at self.now.opened.entries file }
+        ensures bounded { IfSome result (λ l. IsLocalBounded l.now) }
+    {
+        parts::find_local(&self.opened, file)
+    }
+
+    /// The local content of a file; nothing where it isn't open.
+    pub fn local_bytes(&self, file: u64) -> &[u8]
+        requires { All IsLocalBounded (values_of self.now.opened.entries) }
+        ensures bytes { result.now ≡ local_bytes self.now.opened.entries file }
+        ensures bounded { length result.now ≤ FILE_MOST }
+    {
+        parts::local_bytes(&self.opened, file)
     }
 
     /// The reading at which a call went out last that may bring a lease.

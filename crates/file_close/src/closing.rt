@@ -19,12 +19,11 @@ use chunk_cut::chunk::Chunk;
 use client_state::parts;
 use client_state::state::ClientState;
 use client_state::step::{ClientStep, Outcome};
-use client_state::task::{Local, Stage, Upload, UploadCall, Way};
+use client_state::task::{Stage, Upload, UploadCall, Way};
 use cut_bytes::CutBytes;
 use hash_calls::message::Lb;
 use send_list::SendList;
 use std::alloc::{AllocError, Global};
-use std::collections::BTreeMap;
 use transfer_rules::answers;
 use transfer_rules::chunks::chunk_at;
 use wire::message::Body;
@@ -43,7 +42,7 @@ pub fn close(alloc: Global, state: &mut ClientState, file: u64) -> Result<Client
     if state.task.is_some() {
         return Ok(parts::ends(alloc, Outcome::Busy, 0, 0));
     }
-    if !parts::is_open(&state.opened, file) {
+    if !state.is_open(file) {
         return Ok(parts::ends(alloc, Outcome::NotOpen, 0, 0));
     }
     if !state.may_ask() {
@@ -118,7 +117,7 @@ fn ask_commit(
     let lbfs = state.waiting.lbfs;
     let temp = store.temp;
     drop(store);
-    let size = parts::local_bytes(&state.opened, file).len() as u64;
+    let size = state.local_bytes(file).len() as u64;
     calls::send_commit(alloc, lbfs, next_xid, temp, file, size, &mut send)?;
     wait_commit(alloc, state, file, next_xid)?;
     Ok(parts::sends(send, stores::names_counted(count)))
@@ -182,15 +181,15 @@ fn go_on(
 /// The temporary file of this number is there, and no chunk of a file's local content in it.
 fn store_local(
     alloc: Global,
-    opened: &BTreeMap<u64, Local>,
+    state: &ClientState,
     file: u64,
     temp: u32,
 ) -> Result<Upload, AllocError>
-    requires { All IsLocalBounded (values_of opened.now.entries) }
-    ensures store { IfOk result (λ st. st ≡ store_of temp (local_bytes opened.now.entries file)) }
+    requires { All IsLocalBounded (values_of state.now.opened.entries) }
+    ensures store { IfOk result (λ st. st ≡ store_of temp (local_bytes state.now.opened.entries file)) }
     ensures within { IfOk result (λ st. IsStore st) }
 {
-    match parts::find_local(opened, file) {
+    match state.local(file) {
         Some(local) => stores::store_of(alloc, temp, &local.bytes),
         None => stores::store_of(alloc, temp, &CutBytes::empty()),
     }
@@ -211,7 +210,7 @@ pub fn store(
     ensures sound { OnOk result (IsSound state.new) }
     ensures held { OnErr result (IsHeld state.new) }
 {
-    let store = store_local(alloc, &state.opened, file, temp)?;
+    let store = store_local(alloc, &*state, file, temp)?;
     go_on(alloc, state, file, store)
 }
 
@@ -237,7 +236,7 @@ fn send_whole(
     let lbfs = state.waiting.lbfs;
     let xid = state.next_xid;
     let temp = store.temp;
-    let content = parts::local_bytes(&state.opened, file);
+    let content = state.local_bytes(file);
     let bytes = stores::bytes_count(content, chunk);
     let store = stores::with_whole(store, call, xid)?;
     let whole = messages::temp_call(alloc, lbfs, xid, temp, content, chunk)?;

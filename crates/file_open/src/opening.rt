@@ -40,7 +40,7 @@ pub fn open(alloc: Global, state: &mut ClientState, file: u64) -> Result<ClientS
     if state.task.is_some() {
         return Ok(parts::ends(alloc, Outcome::Busy, 0, 0));
     }
-    if parts::is_open(&state.opened, file) {
+    if state.is_open(file) {
         return Ok(parts::ends(alloc, Outcome::AlreadyOpen, 0, 0));
     }
     open_kept(alloc, state, file)

@@ -31,7 +31,7 @@ pub fn rewrite(alloc: Global, state: &mut ClientState, file: u64) -> Result<Clie
     if state.task.is_some() {
         return Ok(parts::ends(alloc, Outcome::Busy, 0, 0));
     }
-    if parts::is_open(&state.opened, file) {
+    if state.is_open(file) {
         return Ok(parts::ends(alloc, Outcome::AlreadyOpen, 0, 0));
     }
     renew_kept(alloc, state, file)

@@ -17,7 +17,6 @@ use crate::taking;
 use chunk_index::index::Key;
 use chunk_index::place::Place;
 use client_cache::cache::Cache;
-use client_state::parts;
 use client_state::state::ClientState;
 use client_state::step::{ClientStep, Ended, Outcome};
 use command_text::command::Command;
@@ -267,7 +266,7 @@ impl Client {
     pub fn shared_local(&self, file: u64) -> Option<&SharedBytes>
         ensures { option_copied result ≡ option_map (λ l. l.bytes) (local_at self.now.opened file) }
     {
-        match parts::find_local(&self.state.opened, file) {
+        match self.state.local(file) {
             Some(local) => Some(local.bytes.shared()),
             None => None,
         }

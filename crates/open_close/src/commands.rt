@@ -114,7 +114,7 @@ pub fn write(
     if state.task.is_some() {
         return Ok(parts::ends(alloc, Outcome::Busy, 0, 0));
     }
-    let Some(local) = parts::find_local(&state.opened, file) else {
+    let Some(local) = state.local(file) else {
         return Ok(parts::ends(alloc, Outcome::NotOpen, 0, 0));
     };
     let count = content::length(&content).ok_or(AllocError)?;
@@ -148,7 +148,7 @@ pub fn put(
     if state.task.is_some() {
         return Ok(parts::ends(alloc, Outcome::Busy, 0, 0));
     }
-    let Some(local) = parts::find_local(&state.opened, file) else {
+    let Some(local) = state.local(file) else {
         return Ok(parts::ends(alloc, Outcome::NotOpen, 0, 0));
     };
     let count = u128::from(content.len() as u64);
@@ -182,7 +182,7 @@ pub fn trunc(
     if state.task.is_some() {
         return Ok(parts::ends(alloc, Outcome::Busy, 0, 0));
     }
-    let Some(local) = parts::find_local(&state.opened, file) else {
+    let Some(local) = state.local(file) else {
         return Ok(parts::ends(alloc, Outcome::NotOpen, 0, 0));
     };
     if u128::from(size) > LOCAL_MOST {
@@ -209,7 +209,7 @@ pub fn read_part(
     if state.task.is_some() {
         return parts::ends(alloc, Outcome::Busy, 0, 0);
     }
-    let Some(local) = parts::find_local(&state.opened, file) else {
+    let Some(local) = state.local(file) else {
         return parts::ends(alloc, Outcome::NotOpen, 0, 0);
     };
     let piece = local::part_of(local.bytes.as_slice(), offset, count);
@@ -230,7 +230,7 @@ pub fn abandon(alloc: Global, state: &mut ClientState, file: u64) -> ClientStep
     if state.task.is_some() {
         return parts::ends(alloc, Outcome::Busy, 0, 0);
     }
-    if !parts::is_open(&state.opened, file) {
+    if !state.is_open(file) {
         return parts::ends(alloc, Outcome::NotOpen, 0, 0);
     }
     let content = state.take_local(file);

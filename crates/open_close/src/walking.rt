@@ -85,7 +85,7 @@ fn found(
     ensures sound { OnOk result (IsSound state.new) }
     ensures held { OnErr result (IsHeld state.new) }
 {
-    if parts::is_open(&state.opened, id) {
+    if state.is_open(id) {
         state.forget(alloc, xid);
         return Ok(finding(id, parts::ends(alloc, Outcome::AlreadyOpen, 0, 0)));
     }
@@ -108,7 +108,7 @@ fn renewed(
     ensures sound { OnOk result (IsSound state.new) }
     ensures held { OnErr result (IsHeld state.new) }
 {
-    if parts::is_open(&state.opened, id) {
+    if state.is_open(id) {
         state.forget(alloc, xid);
         return Ok(finding(id, parts::ends(alloc, Outcome::AlreadyOpen, 0, 0)));
     }
