@@ -1,9 +1,12 @@
 /* The work of a `put` of a new file and of a `get` by another mount, over a server, as a plain C program, to
- * measure the proved one against: two processes over loopback, which exchange messages of the same sizes, at
- * most 16 calls under way; the same hashing and cuts at each end; the file is read, written into the store
- * and written into the other folder. All that is ready goes out in one write.
+ * measure the proved one against: processes over loopback, which exchange messages of the same sizes, at
+ * most 16 calls under way; the same hashing and cuts at each end; the file is read, written into the store,
+ * where it and its name are flushed before the put is answered, and written into the other folder. All that is
+ * ready goes out in one write.
  *
- *   mounted FILE STORE COPY      the microseconds of the put and of the get, of FILE over the file STORE to COPY
+ *   mounted serve PORT STORE MOST     serves a put and then a get of a file of so many bytes, over the file STORE
+ *   mounted put PORT FILE
+ *   mounted get PORT COPY MOST
  */
 #include "contents.c"
 
@@ -13,7 +16,6 @@
 #include <netinet/tcp.h>
 #include <sys/socket.h>
 #include <sys/stat.h>
-#include <time.h>
 #include <unistd.h>
 
 enum { CALLS_MOST = 16, CALL = 44, ANSWER = 28, PAIRS = 1024, PIECE = 65536 };
@@ -110,7 +112,20 @@ static int hear(struct line *l, uint8_t *record, size_t *size)
 
 /* ---- files */
 
-static void write_file(const char *path, const uint8_t *bytes, size_t count)
+/* A flush of the folder that the path is in, so that its name is sure. */
+static void flush_folder(const char *path)
+{
+    char folder[4096];
+    snprintf(folder, sizeof folder, "%s", path);
+    char *end = strrchr(folder, '/');
+    if (end)
+        *end = 0;
+    int file = open(end ? folder : ".", O_RDONLY);
+    if (file < 0 || fsync(file) || close(file))
+        fail("fsync");
+}
+
+static void write_file(const char *path, const uint8_t *bytes, size_t count, int is_sure)
 {
     char beside[4096];
     snprintf(beside, sizeof beside, "%s.new", path);
@@ -121,8 +136,12 @@ static void write_file(const char *path, const uint8_t *bytes, size_t count)
             fail("write");
         done += (size_t)more;
     }
+    if (is_sure && fdatasync(file))
+        fail("fdatasync");
     if (close(file) || rename(beside, path))
         fail("rename");
+    if (is_sure)
+        flush_folder(path);
 }
 
 static struct content read_file(const char *path)
@@ -177,7 +196,7 @@ static void serve(int listener, const char *store, size_t most)
             case COMMIT:
                 cut(&c);
                 sha1(c.bytes, c.count, whole);
-                write_file(store, c.bytes, c.count);
+                write_file(store, c.bytes, c.count, 1);
                 say(&l, ANSWER + 16, COMMIT);
                 break;
             case GETHASH:
@@ -190,7 +209,6 @@ static void serve(int listener, const char *store, size_t most)
         }
         close(l.link);
     }
-    _exit(0);
 }
 
 /* ---- the client */
@@ -278,57 +296,51 @@ static void get_file(struct line *l, const char *path, size_t most, uint8_t *rec
         c.count += chunk->len;
     }
     sha1(c.bytes, c.count, digest);
-    write_file(path, c.bytes, c.count);
+    write_file(path, c.bytes, c.count, 0);
 }
 
-static struct sockaddr_in listening(int listener)
+static struct sockaddr_in at_port(const char *port)
 {
-    struct sockaddr_in at = {.sin_family = AF_INET};
-    socklen_t size = sizeof at;
+    struct sockaddr_in at = {.sin_family = AF_INET, .sin_port = htons((uint16_t)atoi(port))};
     at.sin_addr.s_addr = htonl(INADDR_LOOPBACK);
-    if (bind(listener, (struct sockaddr *)&at, size) || listen(listener, 2) ||
-        getsockname(listener, (struct sockaddr *)&at, &size))
-        fail("listen");
     return at;
 }
 
-static struct line dialled(const struct sockaddr_in *at)
+static int listening(const char *port)
 {
+    struct sockaddr_in at = at_port(port);
+    int listener = socket(AF_INET, SOCK_STREAM, 0), one = 1;
+    setsockopt(listener, SOL_SOCKET, SO_REUSEADDR, &one, sizeof one);
+    if (bind(listener, (struct sockaddr *)&at, sizeof at) || listen(listener, 2))
+        fail("listen");
+    return listener;
+}
+
+static struct line dialled(const char *port)
+{
+    struct sockaddr_in at = at_port(port);
     int link = socket(AF_INET, SOCK_STREAM, 0);
-    if (link < 0 || connect(link, (const struct sockaddr *)at, sizeof *at))
+    if (link < 0 || connect(link, (const struct sockaddr *)&at, sizeof at))
         fail("connect");
     return line_on(link);
 }
 
-static double now(void)
-{
-    struct timespec at;
-    clock_gettime(CLOCK_MONOTONIC, &at);
-    return (double)at.tv_sec * 1e6 + (double)at.tv_nsec / 1e3;
-}
-
 int main(int count, char **words)
 {
-    if (count != 4)
+    if (count < 4)
         return 2;
     make_tables();
-    struct stat about;
-    if (stat(words[1], &about))
-        fail("stat");
-    size_t most = (size_t)about.st_size;
-    int listener = socket(AF_INET, SOCK_STREAM, 0);
-    struct sockaddr_in at = listening(listener);
-    if (fork() == 0)
-        serve(listener, words[2], most);
+    if (count == 5 && !strcmp(words[1], "serve")) {
+        serve(listening(words[2]), words[3], strtoul(words[4], NULL, 10));
+        return 0;
+    }
+    struct line l = dialled(words[2]);
     uint8_t *record = room(4 * PIECE);
-    double start = now();
-    struct line putter = dialled(&at);
-    put_file(&putter, words[1], record);
-    double put = now();
-    close(putter.link);
-    double again = now();
-    struct line getter = dialled(&at);
-    get_file(&getter, words[3], most, record);
-    printf("%.0f %.0f\n", put - start, now() - again);
+    if (count == 4 && !strcmp(words[1], "put"))
+        put_file(&l, words[3], record);
+    else if (count == 5 && !strcmp(words[1], "get"))
+        get_file(&l, words[3], strtoul(words[4], NULL, 10), record);
+    else
+        return 2;
     return 0;
 }

@@ -1,6 +1,7 @@
 #!/usr/bin/env bash
 # Measures `mount` over `serve` on loopback: a `put` of a new file and a `get` of it by another mount, against a
-# plain C program of the same hashing, cuts and messages (mounted.c), by turns and the least of the rounds; what
+# plain C program of the same hashing, cuts, messages and flushes (mounted.c), by turns and the least of the
+# rounds, each from its process's start to its end; what
 # goes over the line for both (examples/relay); and how much 16 mounts store beside each other in the time in
 # which one stores its part. It judges nothing.
 #
@@ -14,7 +15,16 @@ rounds=${2:-5}
 build_baseline bench/mounted.c
 . bench/over-loopback
 
-mkdir "$work/one" "$work/other"
+# The microseconds of the C program with these words: theirs WORD..
+theirs() {
+    local from to
+    from=$(date +%s%N)
+    (cd "$work" && ./baseline "$@")
+    to=$(date +%s%N)
+    echo $(((to - from) / 1000))
+}
+
+mkdir "$work/one" "$work/other" "$work/stored"
 head -c "$((mib * 1048576))" /dev/urandom >"$work/one/h"
 put='' get='' their_put='' their_get=''
 for _ in $(seq "$rounds"); do
@@ -22,9 +32,14 @@ for _ in $(seq "$rounds"); do
     put=$(least "$put" "$(mounted "$port" "$work/one" 'make a' 'put h a')")
     get=$(least "$get" "$(mounted "$port" "$work/other" 'get a k')")
     cmp "$work/one/h" "$work/other/k"
-    read -r theirs again < <("$work/baseline" "$work/one/h" "$work/theirs" "$work/copy")
-    their_put=$(least "$their_put" "$theirs")
-    their_get=$(least "$their_get" "$again")
+    ended
+    rm -f "$work/stored/h"
+    "$work/baseline" serve "$port" "$work/stored/h" "$((mib * 1048576))" &
+    server=$!
+    listened "$port"
+    their_put=$(least "$their_put" "$(theirs put "$port" one/h)")
+    their_get=$(least "$their_get" "$(theirs get "$port" copy "$((mib * 1048576))")")
+    cmp "$work/one/h" "$work/copy"
 done
 echo "put of $mib MiB: $put us, C $their_put us, ratio $(ratio "$put" "$their_put")"
 echo "get of $mib MiB: $get us, C $their_get us, ratio $(ratio "$get" "$their_get")"
