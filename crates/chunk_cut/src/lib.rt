@@ -11,6 +11,7 @@ ghost use Rattle.chunk_cut.specs.Search.{ends};
 use lb_base::items::Items;
 use sha1::Sha1;
 use std::alloc::{AllocError, Global};
+use std::thread::{Threads, join};
 
 pub mod chunk;
 pub mod cutter;
@@ -34,6 +35,29 @@ pub fn cut(alloc: Global, content: &[u8]) -> Result<Items<Chunk>, AllocError>
     let mut chunks = cutter.feed(alloc, content)?;
     chunk::list(&mut chunks, cutter.finish())?;
     Ok(chunks)
+}
+
+/// A content of fewer bytes has its digest in less than some 30 milliseconds, and no thread is begun for that:
+/// where many are cut at once the processors are the bound.
+const BESIDE_LEAST: usize = 16_777_216;
+
+/// The chunks of the content, and its digest. A thread of its own finds that meanwhile, where the content is
+/// large. The one error is running out of memory.
+pub fn cut_and_digest<R: Threads>(
+    rt: &R,
+    alloc: Global,
+    content: &[u8],
+) -> Result<(Items<Chunk>, [u8; 20]), AllocError>
+    ensures chunks { IfOk result (λ found. found.0 ≡ chunks_of content.now) }
+    ensures digest { IfOk result (λ found. found.1 ≡ sha1 content.now) }
+{
+    if content.len() < BESIDE_LEAST {
+        let chunks = cut(alloc, content)?;
+        return Ok((chunks, digest(content)));
+    }
+    let (whole, chunks) = join(rt, move || digest(content), move || cut(alloc, content));
+    let chunks = chunks?;
+    Ok((chunks, whole))
 }
 
 /// What the search for ends finds are the ends of the content, as the least places where its chunks

@@ -14,6 +14,7 @@ use lb_base::items::Items;
 use shared_bytes::SharedBytes;
 use std::alloc::{AllocError, Global};
 use std::marker::Model;
+use std::thread::Threads;
 
 /// One owner of some bytes, with their chunks and their digest where these were found before. Contracts
 /// see the list of the bytes.
@@ -67,12 +68,16 @@ impl CutBytes {
         }
     }
 
-    /// Bytes that are cut and hashed now, and so not again. The one error is running out of memory.
-    pub fn cut(alloc: Global, bytes: SharedBytes) -> Result<CutBytes, AllocError>
+    /// Bytes that are cut and hashed now, and so not again: in two threads, where they are many. The one error
+    /// is running out of memory.
+    pub fn cut<R: Threads>(
+        rt: &R,
+        alloc: Global,
+        bytes: SharedBytes,
+    ) -> Result<CutBytes, AllocError>
         ensures { IfOk result (λ cut. cut ≡ bytes) }
     {
-        let chunks = chunk_cut::cut(alloc, bytes.as_slice())?;
-        let digest = chunk_cut::digest(bytes.as_slice());
+        let (chunks, digest) = chunk_cut::cut_and_digest(rt, alloc, bytes.as_slice())?;
         Ok(CutBytes {
             bytes,
             chunks: Some(chunks),

@@ -26,6 +26,7 @@ use server_core::event::Event;
 use server_held::turns::Turns;
 use std::alloc::Global;
 use std::sync::{Mutex, Wait};
+use std::thread::Threads;
 use synced_store::syncs::Syncs;
 use turn_post::post::Pass;
 
@@ -77,7 +78,7 @@ fn give_out<W: Wait, H: Turns + Drop, Y: Syncs, G: Gate + Drop, L: Link + Drop>(
 /// Takes a session's records off its link, each in a turn of its own, and puts out what there is to
 /// say then: no other thread has to be woken for it. Whoever takes what there is to say holds the
 /// link, so that what is taken first goes out first; while a record is read nobody does.
-fn read_on<W: Wait, H: Turns + Drop, Y: Syncs, G: Gate + Drop, L: Link + Drop, C: Clock>(
+fn read_on<W: Threads + Wait, H: Turns + Drop, Y: Syncs, G: Gate + Drop, L: Link + Drop, C: Clock>(
     rt: &W,
     shared: &Shared<H, Y, G, L>,
     pass: Pass<H>,
@@ -123,7 +124,14 @@ fn read_on<W: Wait, H: Turns + Drop, Y: Syncs, G: Gate + Drop, L: Link + Drop, C
 ///
 /// `InputEnd` comes where the input ended, `Failed` only where the link's count of faults rose, and
 /// `Spoilt` only where no record can stand behind the bytes that came.
-pub fn session_in<W: Wait, H: Turns + Drop, Y: Syncs, G: Gate + Drop, L: Link + Drop, C: Clock>(
+pub fn session_in<
+    W: Threads + Wait,
+    H: Turns + Drop,
+    Y: Syncs,
+    G: Gate + Drop,
+    L: Link + Drop,
+    C: Clock,
+>(
     rt: &W,
     shared: &Shared<H, Y, G, L>,
     pass: Pass<H>,
@@ -214,7 +222,7 @@ fn give_awaited<W: Wait, H: Turns + Drop, Y: Syncs, G: Gate + Drop, L: Link + Dr
 
 /// Takes records off a session's link, and puts out by it what there is to say behind each, until it
 /// ends.
-fn both_on<W: Wait, H: Turns + Drop, Y: Syncs, G: Gate + Drop, L: Link + Drop, C: Clock>(
+fn both_on<W: Threads + Wait, H: Turns + Drop, Y: Syncs, G: Gate + Drop, L: Link + Drop, C: Clock>(
     rt: &W,
     shared: &Shared<H, Y, G, L>,
     pass: Pass<H>,
@@ -259,7 +267,14 @@ fn both_on<W: Wait, H: Turns + Drop, Y: Syncs, G: Gate + Drop, L: Link + Drop, C
 /// comes of a pending change, before the next one is. It answers as `session_in` does, and has shut
 /// the link where the session was closed before its input ended, but where memory was wanting
 /// before the first record.
-pub fn session_both<W: Wait, H: Turns + Drop, Y: Syncs, G: Gate + Drop, L: Link + Drop, C: Clock>(
+pub fn session_both<
+    W: Threads + Wait,
+    H: Turns + Drop,
+    Y: Syncs,
+    G: Gate + Drop,
+    L: Link + Drop,
+    C: Clock,
+>(
     rt: &W,
     shared: &Shared<H, Y, G, L>,
     pass: Pass<H>,

@@ -27,6 +27,7 @@ use server_held::turns::Turns;
 use std::alloc::Global;
 use std::sync::atomic::{AtomicBool, Ordering};
 use std::sync::{Mutex, Wait};
+use std::thread::Threads;
 use synced_store::syncs::Syncs;
 use tree_nodes::content::Content;
 use turn_post::post::{Pass, Post};
@@ -354,7 +355,7 @@ impl<H: Turns + Drop, Y: Syncs, G: Gate + Drop, L: Link + Drop> Shared<H, Y, G, 
     /// What is made of a record before its turn: the content that its COMMITTMP comes to, cut and
     /// hashed while others take their turns; none where its temporary file has no such content, or
     /// memory runs out. The turn comes to the same without it.
-    fn ahead<W: Wait>(
+    fn ahead<W: Threads + Wait>(
         &self,
         rt: &W,
         pass: Pass<H>,
@@ -373,7 +374,7 @@ impl<H: Turns + Drop, Y: Syncs, G: Gate + Drop, L: Link + Drop> Shared<H, Y, G, 
         let Some(bytes) = bytes else {
             return (pass, None);
         };
-        match Content::new(self.alloc, bytes) {
+        match Content::ahead(rt, self.alloc, bytes) {
             Ok(content) => (pass, Some(content)),
             Err(_) => (pass, None),
         }
@@ -381,7 +382,7 @@ impl<H: Turns + Drop, Y: Syncs, G: Gate + Drop, L: Link + Drop> Shared<H, Y, G, 
 
     /// Reads a record of a session, before its turn. That may take long, so no link of the session is to
     /// be held meanwhile.
-    pub fn read<W: Wait>(
+    pub fn read<W: Threads + Wait>(
         &self,
         rt: &W,
         pass: Pass<H>,

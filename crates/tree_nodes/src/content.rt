@@ -9,6 +9,7 @@ use lb_base::items::Items;
 use shared_bytes::SharedBytes;
 use std::alloc::{AllocError, Global};
 use std::marker::Model;
+use std::thread::Threads;
 
 /// The bytes of a file, cut into chunks once, when they came. A store may own them too. Contracts see
 /// the bytes.
@@ -61,6 +62,22 @@ impl Content {
     {
         let chunks = chunk_cut::cut(alloc, bytes.as_slice())?;
         Ok(Content::with_chunks(bytes, chunks))
+    }
+
+    /// As `new`, and the bytes are cut and hashed in two threads, where they are many.
+    pub fn ahead<R: Threads>(
+        rt: &R,
+        alloc: Global,
+        bytes: SharedBytes,
+    ) -> Result<Content, AllocError>
+        ensures { IfOk result (λ c. c ≡ bytes) }
+    {
+        let (chunks, digest) = chunk_cut::cut_and_digest(rt, alloc, bytes.as_slice())?;
+        Ok(Content {
+            bytes,
+            chunks,
+            digest: Some(digest),
+        })
     }
 
     /// A content of these bytes, whose chunks were cut before, and which is to be told of: all bytes are

@@ -198,7 +198,7 @@ fn run_beside<R: Threads + Wait + Clock + Sync + Send + Copy + Drop>(
 }
 
 /// Runs a session in one thread.
-fn run_alone<R: Wait + Copy + Drop>(
+fn run_alone<R: Threads + Wait + Copy + Drop>(
     rt: &R,
     shared: &PortShared<R>,
     pass: Pass<MemHeld>,
