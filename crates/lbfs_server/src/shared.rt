@@ -1,4 +1,4 @@
-//! The turns of a server: each locks what the threads share, and changes it by calls of `Turns`. Another
+//! The turns of a server: each takes what the threads share, and changes it by calls of `Turns`. Another
 //! thread's may stand before and behind it; so a clause says that in some turn behind what the pass had seen a
 //! value did just that (`InTurn`).
 

@@ -79,7 +79,10 @@ fn bad_peer_text(alloc: Global, fault: u32) -> Result<Bytes, AllocError>
     ensures { IfOk result (λ text. text ≡ why_text (whys.BadPeer fault)) }
 {
     let mut text = String::new(alloc);
-    write!(text, "the server broke the protocol, or is no lbfs share ({fault})")?;
+    write!(
+        text,
+        "the server broke the protocol, or is no lbfs share ({fault})"
+    )?;
     Ok(Items::from_vec(text.into_bytes()))
 }
 
@@ -340,7 +343,11 @@ pub fn removed_told(alloc: Global, path: &[Name], answer: &Answer) -> Result<Tol
     if is_dir(answer) {
         return Ok(notes(
             alloc,
-            path_line(alloc, path, b"it is a directory (rm -r removes directories)")?,
+            path_line(
+                alloc,
+                path,
+                b"it is a directory (rm -r removes directories)",
+            )?,
         ));
     }
     done_told(alloc, path, answer)
