@@ -55,7 +55,13 @@ pub fn cut_and_digest<R: Threads>(
         let chunks = cut(alloc, content)?;
         return Ok((chunks, digest(content)));
     }
-    let (whole, chunks) = join(rt, move || digest(content), move || cut(alloc, content));
+    let (whole, chunks) = join(
+        rt,
+        move || -> [u8; 20]
+            ensures { result ≡ sha1 content.entry.now }
+        { digest(content) },
+        move || cut(alloc, content),
+    );
     let chunks = chunks?;
     Ok((chunks, whole))
 }
