@@ -232,6 +232,92 @@ fn hear_in<H: Turns>(
     heard
 }
 
+/// What came of the turn of an event.
+#[derive(Clone, Copy)]
+struct Happened {
+    went: Went,
+    /// The bits of the places whose threads it wakes.
+    wakes: u64,
+    /// Whether a change of its session waits.
+    waits: bool,
+}
+
+/// The bits of the places of those to whom an event said something: where no change could be made nothing was
+/// said to anybody.
+fn said_behind<H: Turns>(held: &H, went: Went) -> u64 {
+    match went {
+        Went::NotReady => 0,
+        _ => said_in(held),
+    }
+}
+
+/// The bit of an event's session, where it has one that stands.
+fn its_bit<H: Turns>(held: &H, session: Option<u32>) -> u64 {
+    match session {
+        Some(session) => bit_of(held, session),
+        None => 0,
+    }
+}
+
+/// One event.
+fn event_in<H: Turns>(held: &mut H, alloc: Global, event: Event) -> Happened
+    requires { IsTimed event }
+    ensures after { H.does held.old event result.went held.new }
+    ensures grows { MayAdd (H.journal held.old) (H.journal held.new) }
+{
+    let its = session_of(&event);
+    let own = its_bit(held, its);
+    let went = held.event(alloc, event);
+    Happened {
+        went,
+        wakes: gone(went, own) | said_behind(held, went),
+        waits: its_waits(held, its),
+    }
+}
+
+/// What came of the turn of a record.
+struct Got {
+    heard: Went,
+    /// The bits of the places whose threads it wakes.
+    wakes: u64,
+    /// What there is to say to its session; none, where a change may be made in a turn behind this one, which
+    /// takes it.
+    answer: Option<Taken>,
+}
+
+/// A record of a session is heard, and what there is to say to it then is taken. Where a change of the session
+/// waits then, or the record was an answer, nothing is.
+fn got_in<H: Turns>(
+    held: &mut H,
+    alloc: Global,
+    session: u32,
+    bytes: &[u8],
+    prepared: Prepared,
+    now: u64,
+) -> Got
+    requires { now < 2 ^ 63 }
+    ensures heard { IsParsed prepared.read (parse_of server_waits bytes.now) → (left : H) × H.hears held.old session bytes.now now result.heard left × (H.journal held.new ≡ H.journal left) }
+    ensures grows { MayAdd (H.journal held.old) (H.journal held.new) }
+{
+    let answers = prepared.answers();
+    let own = bit_of(held, session);
+    let heard = hear_in(held, alloc, session, bytes, prepared, now);
+    let gone = gone(heard, own);
+    if answers || held.waits(session) {
+        return Got {
+            heard,
+            wakes: gone,
+            answer: None,
+        };
+    }
+    let answer = taken_in(held, session);
+    Got {
+        heard,
+        wakes: gone | said_in(held),
+        answer: Some(answer),
+    }
+}
+
 /// What there is to say to a session is taken, and whether more may follow.
 fn taken_in<H: Turns>(held: &mut H, session: u32) -> Taken
     ensures { H.journal held.new ≡ H.journal held.old }
@@ -331,22 +417,12 @@ impl<H: Turns + Drop, Y: Syncs, G: Gate + Drop, L: Link + Drop> Shared<H, Y, G, 
         ensures follows { Follows self.now.post pass result.0 }
         ensures did { InTurn H.journal (λ found left. H.does found event result.1 left) pass result.0 }
     {
-        let its = session_of(&event);
         self.gate.before(Who::of(&event));
         let mut turn = self.post.enter(rt, pass);
-        let own = match its {
-            Some(session) => bit_of(&*turn.value(), session),
-            None => 0,
-        };
-        let went = turn.value().event(self.alloc, event);
-        // Where no change could be made nothing was said to anybody.
-        let said = match went {
-            Went::NotReady => 0,
-            _ => said_in(&*turn.value()),
-        };
-        let waits = its_waits(&*turn.value(), its);
+        let happened = event_in(turn.value(), self.alloc, event);
         let pass = turn.leave();
-        let pass = self.wake(rt, pass, went, gone(went, own) | said);
+        let Happened { went, wakes, waits } = happened;
+        let pass = self.wake(rt, pass, went, wakes);
         self.tell_ticker(waits);
         self.gate.after();
         (pass, went)
@@ -417,23 +493,21 @@ impl<H: Turns + Drop, Y: Syncs, G: Gate + Drop, L: Link + Drop> Shared<H, Y, G, 
         ensures follows { Follows self.now.post pass result.0 }
         ensures heard { IsParsed prepared.read (parse_of server_waits bytes.now) → IsHeard H.journal H.hears session bytes.now pass result.0 }
     {
-        let answers = prepared.answers();
         self.gate.before(Who::Reader(session));
         let mut turn = self.post.enter(rt, pass);
-        let own = bit_of(&*turn.value(), session);
-        let heard = hear_in(turn.value(), self.alloc, session, bytes, prepared, now);
-        if answers || turn.value().waits(session) {
-            let pass = turn.leave();
-            let pass = self.wake(rt, pass, heard, gone(heard, own));
-            self.gate.after();
-            return self.settle(rt, pass, session, now);
-        }
-        let answer = taken_in(turn.value(), session);
-        let said = said_in(&*turn.value());
+        let got = got_in(turn.value(), self.alloc, session, bytes, prepared, now);
         let pass = turn.leave();
-        let pass = self.wake(rt, pass, heard, gone(heard, own) | said);
+        let Got {
+            heard,
+            wakes,
+            answer,
+        } = got;
+        let pass = self.wake(rt, pass, heard, wakes);
         self.gate.after();
-        (pass, answer)
+        match answer {
+            Some(answer) => (pass, answer),
+            None => self.settle(rt, pass, session, now),
+        }
     }
 
     /// A turn in which a pending change is made, if it may be; what there is to say to a session is
