@@ -1,5 +1,5 @@
 -- Worked steps of clients that note a lease, and that are asked for one back; and wrong ones, each of which a clause on notes refuses.
-use Rattle.std.specs.Prelude.{◌≡◌, ◌⊎◌, ℕ, ◌+◌, ◌<◌, zero, suc, List, [], ◌∷◌, length, map, Option, Some, None, Ok, Contains, codes, refl}
+use Rattle.std.specs.Prelude.{◌≡◌, ◌⊎◌, ℕ, ◌+◌, ◌<◌, zero, suc, List, [], ◌∷◌, map, Option, Some, None, Contains, codes, refl}
 use Rattle.std.proofs.Common.{ap, sym, ◌∙◌, subst, inl, inr, arith, get_or}
 use Rattle.client_cache.specs.Cache.{fronted}
 use Rattle.client_cache.specs.declared.kept.Note.{Note}
@@ -13,7 +13,7 @@ use Rattle.hash_calls.specs.declared.message.Lb.TheVariants as lb
 use Rattle.rpc_record.specs.Header.{direction_form, front_form, auth_form, call_form, versions_form, accept_form, denial_form, reply_form}
 use Rattle.server_core.specs.State as server
 use Rattle.session_rules.specs.Session.{new_session}
-use Rattle.trace_ends.specs.Core.{Core, Event, Event.Does, Event.Hears, Event.Settles, happens}
+use Rattle.trace_ends.specs.Core.{Core, Event.Does, Event.Hears, Event.Settles, happens}
 use Rattle.trace_ends.specs.Numbers.{numbered}
 use Rattle.trace_ends.specs.Session.{Seat}
 use Rattle.trace_replay.specs.Notes.{IsNoted, NotesCome, SaysDone, granted_by, note_of}

@@ -9,7 +9,6 @@ use Rattle.lease_rules.specs.Changes.{meets}
 use Rattle.lease_rules.specs.declared.lease.Lease.{Lease}
 use Rattle.tree_nodes.specs.declared.node.Body.TheVariants.{File}
 use Rattle.xdr_codec.specs.declared.handle.TheConstants.{ROOT}
-use Rattle.server_core.specs.declared.change.Wanted.{Wanted}
 use Rattle.server_core.specs.declared.change.Wanted.TheVariants as wanted
 use Rattle.server_core.specs.declared.event.Sent.{Sent}
 use Rattle.server_core.specs.declared.journal.Entry.{Entry}
