@@ -20,13 +20,14 @@ pub cause : (o : ServeOptions) (accepted accepted' net net' store store' : ℕ) 
     → OnOk ended (port ≡ Some o.port) → OnOk ended (records ≡ there place) → place ≡ o.store
     → (IsErrOf ended errors.Network → Rose net net') → (IsErrOf ended errors.Store → Rose store store')
     → ((which : ℕ) → IsErrOf ended (errors.BadRecord which) → IsBad records which)
+    → (IsErrOf ended errors.NoThread → (accepted' ≡ accepted) × (net' ≡ net))
     → ServeCause o accepted accepted' net net' store store' port records there ended
-cause o accepted accepted' net net' store store' port records there place (Ok s) ok listens stands is network stored bad = (ok.0, ok.1, listens, stands ∙ ap there is)
-cause o accepted accepted' net net' store store' port records there place (Err errors.Network) ok listens stands is network stored bad = network refl
-cause o accepted accepted' net net' store store' port records there place (Err errors.Store) ok listens stands is network stored bad = stored refl
-cause o accepted accepted' net net' store store' port records there place (Err (errors.BadRecord which)) ok listens stands is network stored bad = bad which refl
-cause o accepted accepted' net net' store store' port records there place (Err errors.Memory) ok listens stands is network stored bad = tt
-cause o accepted accepted' net net' store store' port records there place (Err errors.NoThread) ok listens stands is network stored bad = tt
+cause o accepted accepted' net net' store store' port records there place (Ok s) ok listens stands is network stored bad alone = (ok.0, ok.1, listens, stands ∙ ap there is)
+cause o accepted accepted' net net' store store' port records there place (Err errors.Network) ok listens stands is network stored bad alone = network refl
+cause o accepted accepted' net net' store store' port records there place (Err errors.Store) ok listens stands is network stored bad alone = stored refl
+cause o accepted accepted' net net' store store' port records there place (Err (errors.BadRecord which)) ok listens stands is network stored bad alone = bad which refl
+cause o accepted accepted' net net' store store' port records there place (Err errors.Memory) ok listens stands is network stored bad alone = tt
+cause o accepted accepted' net net' store store' port records there place (Err errors.NoThread) ok listens stands is network stored bad alone = alone refl
 
 pub network_rose : (o : ServeOptions) (accepted accepted' net net' store store' : ℕ) (port : Option ℕ) (records : Option (List Kept)) (there : List ℕ → Option (List Kept)) (held held' : Option (List ℕ)) (s : Status) (ended : Result Served ServeError)
     → ServeCause o accepted accepted' net net' store store' port records there ended → Tells s held held' (serve_output ended) → s ≡ status.Network → Rose net net'

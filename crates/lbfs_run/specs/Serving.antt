@@ -33,14 +33,14 @@ serve_output (Err errors.NoThread) = (status.NoThread, [])
 
 -- why serving ended so: at least as many links were accepted as sessions were asked for, the network listens at the port that was asked
 -- for, and the store's records are those at the place; the network's count of faults rose; the store's did; this record is the first
--- that breaks a rule
+-- that breaks a rule; nobody listened
 abbrev pub ServeCause : ServeOptions → (accepted accepted' net net' store store' : ℕ) → (port : Option ℕ) → (records : Option (List Kept)) → (there : List ℕ → Option (List Kept)) → Result Served ServeError → Type 0
 ServeCause o accepted accepted' net net' store store' port records there (Ok s) = (s.sessions ≡ o.sessions) × CountsMore accepted o.sessions accepted' × (port ≡ Some o.port) × (records ≡ there o.store)
 ServeCause o accepted accepted' net net' store store' port records there (Err errors.Network) = Rose net net'
 ServeCause o accepted accepted' net net' store store' port records there (Err errors.Store) = Rose store store'
 ServeCause o accepted accepted' net net' store store' port records there (Err (errors.BadRecord which)) = IsBad records which
 ServeCause o accepted accepted' net net' store store' port records there (Err errors.Memory) = Unit {0}
-ServeCause o accepted accepted' net net' store store' port records there (Err errors.NoThread) = Unit {0}
+ServeCause o accepted accepted' net net' store store' port records there (Err errors.NoThread) = (accepted' ≡ accepted) × (net' ≡ net)
 
 -- serving ended in one of these ways, with its cause, and that was written with its status
 abbrev pub ServeEnds : ServeOptions → (accepted accepted' net net' store store' : ℕ) → (port : Option ℕ) → (records : Option (List Kept)) → (there : List ℕ → Option (List Kept)) → (held held' : Option (List ℕ)) → Status → Type 0

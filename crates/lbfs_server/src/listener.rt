@@ -255,6 +255,7 @@ where
     ensures at { N.at net.new ≡ N.at net.old }
     ensures later { N.faults net.old ≤ N.faults net.new }
     ensures cause { IsErrOf result.1 stops.Network → Rose (N.faults net.old) (N.faults net.new) }
+    ensures alone { IsErrOf result.1 stops.NoThread → ⊥ }
 {
     let mut pass = pass;
     for _turn in rt.forever() {
@@ -307,6 +308,7 @@ where
     ensures at { N.at net.new ≡ N.at net.old }
     ensures later { N.faults net.old ≤ N.faults net.new }
     ensures cause { IsErrOf result.1 stops.Network → Rose (N.faults net.old) (N.faults net.new) }
+    ensures alone { IsErrOf result.1 stops.NoThread → ⊥ }
 {
     let mut pass = pass;
     for _at in 0..sessions {
@@ -350,6 +352,7 @@ where
     ensures at { OnOk result.1 (N.at net.new ≡ Some port) }
     ensures later { N.faults net.old ≤ N.faults net.new }
     ensures cause { IsErrOf result.1 stops.Network → Rose (N.faults net.old) (N.faults net.new) }
+    ensures alone { IsErrOf result.1 stops.NoThread → ⊥ }
 {
     if net.listen(port).is_err() {
         return (pass, Err(Stop::Network));
@@ -363,7 +366,7 @@ where
 ///
 /// `Ok` comes once at least so many links were accepted, `Network` only where the network's count of
 /// faults rose, `Doubt` where the store could not be made sure of something, and `NoThread` where no ticker
-/// could be had.
+/// could be had: then the network is as it was.
 pub fn serve_links<
     'x,
     R: Threads + Wait + Sync,
@@ -391,6 +394,7 @@ where
     ensures at { OnOk result.0 (N.at result.1 ≡ Some port) }
     ensures later { N.faults net ≤ N.faults result.1 }
     ensures cause { IsErrOf result.0 stops.Network → Rose (N.faults net) (N.faults result.1) }
+    ensures alone { IsErrOf result.0 stops.NoThread → result.1 ≡ net }
 {
     let bell = net.bell();
     let (pass, ticks_pass) = shared.split(pass);
@@ -406,6 +410,7 @@ where
             ensures at { OnOk result.0 (N.at result.1 ≡ Some port) }
             ensures later { N.faults net ≤ N.faults result.1 }
             ensures cause { IsErrOf result.0 stops.Network → Rose (N.faults net) (N.faults result.1) }
+            ensures alone { IsErrOf result.0 stops.NoThread → result.1 ≡ net }
         {
             let ticks = scope.spawn(
                 move ||

@@ -72,6 +72,7 @@ fn opened<R: Threads + Sync, S: Store>(
     ensures store { IsErrOf result errors.Store → Rose (S.faults store.old) (S.faults store.new) }
     ensures record { (which : ℕ) → IsErrOf result (errors.BadRecord which) → IsBad (S.records store.old) which }
     ensures network { IsErrOf result errors.Network → ⊥ }
+    ensures alone { IsErrOf result errors.NoThread → ⊥ }
 {
     let records = match store.load(alloc, place) {
         Ok(records) => records,
@@ -141,7 +142,7 @@ fn close_error(why: StoreError, before: u64, after: u64) -> ServeError
 /// An empty store has the root alone. `Store` comes only where the store's count of faults rose: as it
 /// gave its records, or as it was to be made sure of what it was given. Then nothing more goes out on
 /// any link. `BadRecord` names the first record that breaks a rule, and `Network` comes only where the
-/// network's count rose.
+/// network's count rose. With `NoThread` the network is as it was.
 #[tactic(auto, using(crate::proofs::Serving::none_held, crate::proofs::Serving::same_error))]
 pub fn serve<
     R: Threads + Wait + Sync,
@@ -170,6 +171,7 @@ where
     ensures sessions { IfOk result.0 (λ s. (s.sessions ≡ sessions) × CountsMore (N.accepted net) sessions (N.accepted result.2)) }
     ensures front { IfOk result.0 (λ s. IsFront (S.records store) (S.records result.1) s.front) }
     ensures network { IsErrOf result.0 errors.Network → Rose (N.faults net) (N.faults result.2) }
+    ensures alone { IsErrOf result.0 errors.NoThread → result.2 ≡ net }
     ensures store { IsErrOf result.0 errors.Store → Rose (S.faults store) (S.faults result.1) }
     ensures record { (which : ℕ) → IsErrOf result.0 (errors.BadRecord which) → IsBad (S.records store) which }
 {

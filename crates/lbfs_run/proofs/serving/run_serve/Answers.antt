@@ -1,11 +1,12 @@
-use Rattle.std.proofs.Common.{refl}
+use Rattle.std.proofs.Common.{refl, ap}
 use Rattle.lbfs_run.proofs.Served.{cause, network_rose, store_failed, known}
 use Rattle.lbfs_run.proofs.serving.run_serve.Goals as goal
 
 pub returns-clause-serves : goal.returns-clause-serves
 returns-clause-serves g c = (
   c.serve-ended.result.0,
-  cause c.args.options.now _ _ _ _ _ _ _ _ (g.D.Store.there c.args.out.store) c.as_str.result.now c.serve-ended.result.0 c.serve-ended.ensures.sessions c.serve-ended.ensures.port c.serve-ended.ensures.place c.as_str.ensures c.serve-ended.ensures.network c.serve-ended.ensures.store c.serve-ended.ensures.record,
+  cause c.args.options.now _ _ _ _ _ _ _ _ (g.D.Store.there c.args.out.store) c.as_str.result.now c.serve-ended.result.0 c.serve-ended.ensures.sessions c.serve-ended.ensures.port c.serve-ended.ensures.place c.as_str.ensures c.serve-ended.ensures.network c.serve-ended.ensures.store c.serve-ended.ensures.record
+      (λ is. let same = c.serve-ended.ensures.alone is in (ap g.N.Network.accepted same, ap g.N.Network.faults same)),
   c.tell_served-status.ensures.told,
 )
 
