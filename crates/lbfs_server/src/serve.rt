@@ -6,9 +6,10 @@ ghost use Rattle.lb_base.specs.Causes.{Rose};
 ghost use Rattle.lbfs_server.specs.Ends.{CountsMore};
 ghost use Rattle.lbfs_server.specs.Serve.{IsServerOf, IsBad, IsFront, quiet_from};
 ghost use Rattle.lbfs_server.specs.declared.serve.ServeError.TheVariants as errors;
-ghost use Rattle.server_held.specs.Kept.{KeepsTree};
+ghost use Rattle.server_held.specs.Kept.{KeepsTree, journal_of};
 ghost use Rattle.store.specs.declared.store.StoreError.TheVariants as store_errors;
 ghost use Rattle.server_law.specs.Facts.{Holds};
+ghost use Rattle.turn_post.specs.Passes.{IsPassOf, seen};
 
 use crate::gate::Gate;
 use crate::hints::{content_ids, learn_all};
@@ -19,14 +20,14 @@ use links::network::Network;
 use links::rest::Rest;
 use server_core::server::Server;
 use server_held::held::SharedServer;
-use std::alloc::Global;
+use std::alloc::{AllocFailed, Global};
 use std::sync::Wait;
 use std::thread::Threads;
 use store::store::{Store, StoreError};
 use synced_store::syncs::Synced;
 use tree_load::error::LoadError;
 use tree_load::load::load;
-use turn_post::post::Post;
+use turn_post::post::{Pass, Post};
 
 /// How many bytes of memory the temporary files of all sessions may hold together.
 const TEMPS_HELD_MOST: u64 = 1 << 30;
@@ -118,6 +119,33 @@ fn changes_in(long: u64) -> u64
     long.saturating_sub(1)
 }
 
+/// What threads share, in a post: it lies in a box, so that a turn moves a pointer to it. Where memory runs out
+/// its store comes back.
+fn posted<S: Store + Drop>(
+    alloc: Global,
+    held: SharedServer<S>,
+) -> Result<(Post<Box<SharedServer<S>>>, Pass<Box<SharedServer<S>>>), S>
+    ensures { IfOk result (λ p. IsPassOf p.0 p.1 × (seen p.1 ≡ journal_of held.kept)) }
+{
+    let held = match Box::new(alloc, held) {
+        Ok(held) => held,
+        Err(AllocFailed { value }) => return Err(value.into_store()),
+    };
+    match Post::new(alloc, held) {
+        Ok(made) => Ok(made),
+        Err(held) => Err(store_of(held)),
+    }
+}
+
+/// The store of what threads shared.
+fn store_of<S: Store + Drop>(held: Box<SharedServer<S>>) -> S
+    ensures store { result ≡ held.value.kept.store }
+    ensures accounted { Holds held.value.kept.opened.tree held.value.kept.server }
+    ensures kept { KeepsTree (S.records result) held.value.kept.server.tree }
+{
+    Box::into_inner(held).into_store()
+}
+
 /// Why nothing more is served once a store could not be closed for a reason: running out of memory, or `Store`. That
 /// its count of faults is above the one before is looked up: of a store that comes back from other threads
 /// nothing else tells it.
@@ -185,15 +213,15 @@ where
     let Ok(syncs) = store.syncs() else {
         return (Err(ServeError::Memory), store, net);
     };
-    let (post, pass) = match Post::new(alloc, SharedServer::new(alloc, server, store)) {
+    let (post, pass) = match posted(alloc, SharedServer::new(alloc, server, store)) {
         Ok(made) => made,
-        Err(held) => return (Err(ServeError::Memory), held.into_store(), net),
+        Err(store) => return (Err(ServeError::Memory), store, net),
     };
     let shared = Shared::new(alloc, post, syncs, gate, quiet);
     let (ended, net, pass) = serve_links(rt, &shared, pass, net, clock, rest, port, sessions);
     let (long, held) = shared.finish(rt, pass);
     let front = changes_in(long);
-    let mut store = held.into_store();
+    let mut store = store_of(held);
     if let Err(why) = store.close() {
         let error = close_error(why, before, store.fault_count());
         return (Err(error), store, net);

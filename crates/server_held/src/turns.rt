@@ -80,3 +80,65 @@ pub trait Turns: Journaled {
     fn take_out(&mut self, session: u32) -> Vec<Message>
         ensures { Self.journal self.new ≡ Self.journal self.old };
 }
+
+/// The same of what lies elsewhere: a turn then moves a pointer, and not all that a server is.
+impl<H: Turns> Turns for Box<H> {
+    ghost does = { λ old event said new. H.does old.value event said new.value };
+
+    ghost hears = { λ old session bytes now said new. H.hears old.value session bytes now said new.value };
+
+    fn stands(&self, session: u32) -> bool {
+        (**self).stands(session)
+    }
+
+    fn place(&self, session: u32) -> Option<usize> {
+        (**self).place(session)
+    }
+
+    fn is_full_at(&self, place: usize) -> bool {
+        (**self).is_full_at(place)
+    }
+
+    fn is_still(&self) -> bool {
+        (**self).is_still()
+    }
+
+    fn waits(&self, session: u32) -> bool {
+        (**self).waits(session)
+    }
+
+    fn waits_at(&self, place: usize) -> bool {
+        (**self).waits_at(place)
+    }
+
+    fn spent(&self) -> Option<u32> {
+        (**self).spent()
+    }
+
+    fn event(&mut self, alloc: Global, event: Event) -> Went {
+        self.as_mut().event(alloc, event)
+    }
+
+    fn heard(
+        &mut self,
+        alloc: Global,
+        session: u32,
+        bytes: &[u8],
+        read: Result<Message, WireError>,
+        now: u64,
+    ) -> Went {
+        self.as_mut().heard(alloc, session, bytes, read, now)
+    }
+
+    fn share_temp(&mut self, session: u32, commit: &Commit) -> Option<SharedBytes> {
+        self.as_mut().share_temp(session, commit)
+    }
+
+    fn prepare(&mut self, ahead: Option<Content>) {
+        self.as_mut().prepare(ahead);
+    }
+
+    fn take_out(&mut self, session: u32) -> Vec<Message> {
+        self.as_mut().take_out(session)
+    }
+}
