@@ -46,7 +46,7 @@ status_text n =
 abbrev pub why_text : Why → List ℕ
 why_text why.Order = codes "the client has no such file open"
 why_text why.TooBig = codes "the file is too large (64 MiB are the most)"
-why_text why.Lost = codes "the connection was lost; it may have been done, or not"
+why_text why.Lost = codes "the connection was lost (is lbfs share still running?); it may have been done, or not"
 why_text why.Cut = codes "the connection was lost (is lbfs share still running?)"
 why_text why.Changed = codes "the file changed each time that it was fetched"
 why_text why.NoLink = codes "no server answers (is lbfs share, or ssh -L, running?)"

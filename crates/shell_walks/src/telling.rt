@@ -101,9 +101,9 @@ pub fn put_why(alloc: Global, out: &mut Bytes, why: Why) -> Result<(), AllocErro
     match why {
         Why::Order => out.extend_from_slice(b"the client has no such file open"),
         Why::TooBig => out.extend_from_slice(b"the file is too large (64 MiB are the most)"),
-        Why::Lost => {
-            out.extend_from_slice(b"the connection was lost; it may have been done, or not")
-        }
+        Why::Lost => out.extend_from_slice(
+            b"the connection was lost (is lbfs share still running?); it may have been done, or not",
+        ),
         Why::Cut => {
             out.extend_from_slice(b"the connection was lost (is lbfs share still running?)")
         }
