@@ -193,8 +193,7 @@ fn say(removal: &mut Removal, said: &Removal) -> Result<(), AllocError>
 
 /// What came of one thing goes behind what is to go, and is said.
 fn add(doomed: &mut Vec<Doomed>, removal: &mut Removal, came: Came) -> Result<(), AllocError>
-    ensures doomed { OnOk result (doomed.new.items ≡ doomed.old.items ++ came.more) }
-    ensures said { OnOk result (removal.new ≡ both removal.old came.said) }
+    ensures { OnOk result ((doomed.new.items ≡ doomed.old.items ++ came.more) × (removal.new ≡ both removal.old came.said)) }
 {
     let Came { more, said } = came;
     let mut more = more.into_vec();

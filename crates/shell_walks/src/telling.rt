@@ -297,15 +297,20 @@ pub fn why_of(answer: &Answer) -> Why
     }
 }
 
+/// Why something wasn't stored for which a file was made, in words.
+fn put_left(alloc: Global, out: &mut Bytes, why: Why) -> Result<(), AllocError>
+    ensures { OnOk result (out.new ≡ out.old ++ (why_text why ++ codes "; a new file may stay there, empty")) }
+{
+    put_why(alloc, out, why)?;
+    out.extend_from_slice(b"; a new file may stay there, empty")
+}
+
 /// Why something wasn't stored, in words, and that a file may have been made for it.
 pub fn put_unstored(alloc: Global, out: &mut Bytes, answer: &Answer) -> Result<(), AllocError>
     ensures { OnOk result (out.new ≡ out.old ++ unstored_text answer.now) }
 {
     match answer {
-        Answer::Left(why) => {
-            put_why(alloc, out, *why)?;
-            out.extend_from_slice(b"; a new file may stay there, empty")
-        }
+        Answer::Left(why) => put_left(alloc, out, *why),
         answer => put_why(alloc, out, why_of(answer)),
     }
 }
