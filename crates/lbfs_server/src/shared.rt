@@ -285,8 +285,33 @@ struct Got {
     answer: Option<Taken>,
 }
 
-/// A record of a session is heard, and what there is to say to it then is taken. Where a change of the session
-/// waits then, or the record was an answer, nothing is.
+/// What there is to say to a session is taken, and whether more may follow.
+fn taken_in<H: Turns>(held: &mut H, session: u32) -> Taken
+    ensures { H.journal held.new ≡ H.journal held.old }
+{
+    let messages = held.take_out(session);
+    let stands = held.stands(session);
+    Taken::new(messages, stands)
+}
+
+/// What there is to say to a session behind a record of it is taken; nothing, where a change of it waits or the
+/// record was an answer.
+fn answer_in<H: Turns>(held: &mut H, session: u32, answers: bool) -> Option<Taken>
+    ensures { H.journal held.new ≡ H.journal held.old }
+{
+    if answers || held.waits(session) {
+        return None;
+    }
+    Some(taken_in(held, session))
+}
+
+/// The bits of the places of those to whom something is said, where a record was answered in its turn; else
+/// the turn behind it finds them.
+fn said_with<H: Turns>(held: &H, answered: bool) -> u64 {
+    if answered { said_in(held) } else { 0 }
+}
+
+/// A record of a session is heard, and answered where nothing waits.
 fn got_in<H: Turns>(
     held: &mut H,
     alloc: Global,
@@ -302,29 +327,13 @@ fn got_in<H: Turns>(
     let answers = prepared.answers();
     let own = bit_of(held, session);
     let heard = hear_in(held, alloc, session, bytes, prepared, now);
-    let gone = gone(heard, own);
-    if answers || held.waits(session) {
-        return Got {
-            heard,
-            wakes: gone,
-            answer: None,
-        };
-    }
-    let answer = taken_in(held, session);
+    let answer = answer_in(held, session, answers);
+    let said = said_with(held, answer.is_some());
     Got {
         heard,
-        wakes: gone | said_in(held),
-        answer: Some(answer),
+        wakes: gone(heard, own) | said,
+        answer,
     }
-}
-
-/// What there is to say to a session is taken, and whether more may follow.
-fn taken_in<H: Turns>(held: &mut H, session: u32) -> Taken
-    ensures { H.journal held.new ≡ H.journal held.old }
-{
-    let messages = held.take_out(session);
-    let stands = held.stands(session);
-    Taken::new(messages, stands)
 }
 
 /// The bits of those whose session an event may have ended: that of its own session, where it went, and

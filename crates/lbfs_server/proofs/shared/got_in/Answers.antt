@@ -1,8 +1,9 @@
-use Rattle.std.proofs.Common.{refl}
+use Rattle.std.proofs.Common.{sym, subst}
+use Rattle.server_law.specs.Growth.{MayAdd}
 use Rattle.lbfs_server.proofs.shared.got_in.Goals as goal
 
-pub returns-then-answers-clause-heard : goal.returns-then-answers-clause-heard
-returns-then-answers-clause-heard g c = λ is. (c.hear_in-heard.new.held, c.hear_in-heard.ensures.heard is, refl)
-
 pub returns-clause-heard : goal.returns-clause-heard
-returns-clause-heard g c = λ is. (c.hear_in-heard.new.held, c.hear_in-heard.ensures.heard is, c.taken_in-answer.ensures)
+returns-clause-heard g c = λ is. (c.hear_in-heard.new.held, c.hear_in-heard.ensures.heard is, c.answer_in-answer.ensures)
+
+pub returns-clause-grows : goal.returns-clause-grows
+returns-clause-grows g c = subst (λ es. MayAdd (g.H.Journaled.journal c.args.held.now) es) (sym c.answer_in-answer.ensures) c.hear_in-heard.ensures.grows
