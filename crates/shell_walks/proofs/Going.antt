@@ -1,5 +1,5 @@
 -- What is left to go, one thing after the other.
-use Rattle.std.proofs.Common.{◌≡◌, subst, ap, ◌∙◌, ℕ, List, [], ◌∷◌, ◌++◌, option_to_list, Some}
+use Rattle.std.proofs.Common.{◌≡◌, subst, ap, ◌∙◌, ℕ, List, [], ◌∷◌, ◌++◌, false, option_to_list, Some}
 use Rattle.command_text.specs.declared.command.Command.{Command}
 use Rattle.shell_walks.specs.Removing.{both, first, RemovesOne, Removes, Removes.one_more}
 use Rattle.shell_walks.specs.declared.remote.Answer.{Answer}
