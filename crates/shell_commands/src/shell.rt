@@ -85,7 +85,7 @@ fn operand(line: &Line, at: usize) -> &[u8]
 }
 
 /// The path that a word names in a directory.
-fn named(alloc: Global, dir: &[Name], word: &[u8]) -> Result<Named, AllocError>
+fn path_named(alloc: Global, dir: &[Name], word: &[u8]) -> Result<Named, AllocError>
     ensures { IfOk result (λ n. Names dir.now word.now n) }
 {
     match path_of(alloc, dir, word) {
@@ -139,7 +139,7 @@ fn move_named<R: Remote>(
 ) -> Result<Told, AllocError>
     ensures { IfOk result (λ told. MovesTo R.asks remote.old dir.now from.now word.now told remote.new) }
 {
-    match named(alloc, dir, word)? {
+    match path_named(alloc, dir, word)? {
         Named::Path(to) => move_to(alloc, remote, from, to),
         Named::Mistaken(told) => Ok(told),
     }
@@ -288,9 +288,9 @@ impl Shell {
         last: &[u8],
     ) -> Result<Named, AllocError> {
         if !is_component(last) {
-            return named(alloc, self.dir.as_slice(), word);
+            return path_named(alloc, self.dir.as_slice(), word);
         }
-        let path = match named(alloc, self.dir.as_slice(), word)? {
+        let path = match path_named(alloc, self.dir.as_slice(), word)? {
             Named::Path(path) => path,
             mistaken => return Ok(mistaken),
         };
@@ -391,7 +391,7 @@ impl Shell {
             NamedLocal::Path(local) => local,
             NamedLocal::Mistaken(told) => return Ok(Went::Told(told)),
         };
-        let named = named(alloc, self.dir.as_slice(), operand(line, 1))?;
+        let named = path_named(alloc, self.dir.as_slice(), operand(line, 1))?;
         let storing = Storing {
             deep: true,
             changed_only: true,
@@ -442,7 +442,7 @@ impl Shell {
     ) -> Result<Went, AllocError>
         ensures { IfOk result (λ w. RunsNamed R.asks R.content line.now self.old.dir remote.old w remote.new self.new.dir) }
     {
-        match named(alloc, self.dir.as_slice(), operand(line, 0))? {
+        match path_named(alloc, self.dir.as_slice(), operand(line, 0))? {
             Named::Path(path) => self.run_on(alloc, remote, host, line, path),
             Named::Mistaken(told) => Ok(Went::Told(told)),
         }
