@@ -1,5 +1,5 @@
 -- Worked steps of clients that note a lease, and that are asked for one back; and wrong ones, each of which a clause on notes refuses.
-use Rattle.std.specs.Prelude.{◌≡◌, ◌⊎◌, ℕ, ◌+◌, ◌<◌, zero, suc, List, [], ◌∷◌, map, Option, Some, None, Contains, codes, refl}
+use Rattle.std.specs.Prelude.{◌≡◌, ◌⊎◌, ℕ, ◌+◌, ◌<◌, zero, suc, List, [], ◌∷◌, map, Option, Some, None, true, Contains, codes, refl}
 use Rattle.std.proofs.Common.{ap, sym, ◌∙◌, subst, inl, inr, arith, get_or}
 use Rattle.client_cache.specs.Cache.{fronted}
 use Rattle.client_cache.specs.declared.kept.Note.{Note}
