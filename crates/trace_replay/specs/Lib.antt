@@ -24,7 +24,6 @@ pub mod WarmRows
 pub mod PendingChanges
 pub mod PendingRows
 pub mod Notes
-pub mod NoteRows
 pub mod Walking
 pub mod WalkingRows
 pub mod Fetches
