@@ -37,11 +37,11 @@ counted_read asks content offers reads old new host host' local path s bytes r k
 pub got_so : {R F E : Type 0} {asks : R → Command → Answer → R → Type 0} {content : R → ℕ → List ℕ} {writes : F → List ℕ → List ℕ → Result Unit LocalFault → F → Type 0} {tries : F → List ℕ → Result Unit LocalFault → F → Type 0} (s t : R) (h k : F) (id : Option ℕ) (path : List (List ℕ)) (local : List ℕ) (g : Got) (r : Result Visited E) → Gets asks content writes tries s h id path local g t k → IfOk r (λ v. EndsGet path local g v) → IfOk r (λ v. CountsGot asks content writes tries id path local v)
 got_so s t h k id path local g r gets h' = IfOk-weaker r _ _ (λ v e. fetched s t h k g gets e) h'
 
-pub not_got : {R F E : Type 0} {asks : R → Command → Answer → R → Type 0} {content : R → ℕ → List ℕ} {writes : F → List ℕ → List ℕ → Result Unit LocalFault → F → Type 0} {tries : F → List ℕ → Result Unit LocalFault → F → Type 0} (id : Option ℕ) (path : List (List ℕ)) (local : List ℕ) (r : Result Visited E) → IfOk r (λ v. v.files ≡ 0) → IfOk r (λ v. CountsGot asks content writes tries id path local v)
-not_got id path local r h = IfOk-weaker r _ _ (λ v f. not_fetched f) h
+pub not_got : {R F E : Type 0} (asks : R → Command → Answer → R → Type 0) (content : R → ℕ → List ℕ) (writes : F → List ℕ → List ℕ → Result Unit LocalFault → F → Type 0) (tries : F → List ℕ → Result Unit LocalFault → F → Type 0) (id : Option ℕ) (path : List (List ℕ)) (local : List ℕ) (r : Result Visited E) → IfOk r (λ v. v.files ≡ 0) → IfOk r (λ v. CountsGot asks content writes tries id path local v)
+not_got asks content writes tries id path local r h = IfOk-weaker r _ _ (λ v f. not_fetched f) h
 
-pub put_so : {R F E : Type 0} {asks : R → Command → Answer → R → Type 0} {content : R → ℕ → List ℕ} {offers : R → List ℕ → R → Type 0} {reads : F → List ℕ → Result (List ℕ) LocalFault → F → Type 0} (old new : R) (h k : F) (local : List ℕ) (path : List (List ℕ)) (s : Storing) (r : Result Visited E) → IfOk r (λ v. CountsRead asks content offers reads old h local path s v.files new k) → IfOk r (λ v. CountsPut asks content offers reads old local path s v.files new)
-put_so old new h k local path s r c = IfOk-weaker r _ _ (λ v e. read h k e) c
+pub put_so : {R F E : Type 0} (asks : R → Command → Answer → R → Type 0) (content : R → ℕ → List ℕ) (offers : R → List ℕ → R → Type 0) (reads : F → List ℕ → Result (List ℕ) LocalFault → F → Type 0) (old new : R) (h k : F) (local : List ℕ) (path : List (List ℕ)) (s : Storing) (r : Result Visited E) → IfOk r (λ v. CountsRead asks content offers reads old h local path s v.files new k) → IfOk r (λ v. CountsPut asks content offers reads old local path s v.files new)
+put_so asks content offers reads old new h k local path s r c = IfOk-weaker r _ _ (λ v e. read h k e) c
 
-pub not_put : {R F E : Type 0} {asks : R → Command → Answer → R → Type 0} {content : R → ℕ → List ℕ} {offers : R → List ℕ → R → Type 0} {reads : F → List ℕ → Result (List ℕ) LocalFault → F → Type 0} (old new : R) (local : List ℕ) (path : List (List ℕ)) (s : Storing) (r : Result Visited E) → IfOk r (λ v. v.files ≡ 0) → IfOk r (λ v. CountsPut asks content offers reads old local path s v.files new)
-not_put old new local path s r h = IfOk-weaker r _ _ (λ v f. not_read f) h
+pub not_put : {R F E : Type 0} (asks : R → Command → Answer → R → Type 0) (content : R → ℕ → List ℕ) (offers : R → List ℕ → R → Type 0) (reads : F → List ℕ → Result (List ℕ) LocalFault → F → Type 0) (old new : R) (local : List ℕ) (path : List (List ℕ)) (s : Storing) (r : Result Visited E) → IfOk r (λ v. v.files ≡ 0) → IfOk r (λ v. CountsPut asks content offers reads old local path s v.files new)
+not_put asks content offers reads old new local path s r h = IfOk-weaker r _ _ (λ v f. not_read f) h

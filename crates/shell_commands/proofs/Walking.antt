@@ -1,5 +1,5 @@
 -- Names of a directory, and of a path, one after the other.
-use Rattle.std.proofs.Common.{◌≡◌, refl, sym, subst, ap, ◌∙◌, ℕ, suc, ◌+◌, ◌<◌, List, [], ◌∷◌, ◌++◌, length, take, get_or, arith}
+use Rattle.std.proofs.Common.{◌≡◌, sym, subst, ap, ◌∙◌, ℕ, suc, ◌+◌, ◌<◌, List, [], ◌∷◌, ◌++◌, length, take, get_or, arith}
 use Rattle.std.proofs.Math.Seq.{take-suc}
 use Rattle.command_text.specs.declared.command.Command.{Command}
 use Rattle.shell_walks.specs.Asking.{command_on, AsksOn}
@@ -14,3 +14,7 @@ one_more n = omega arith
 -- the names up to one, and that one
 pub taken : (names : List (List ℕ)) (at : ℕ) (name : List ℕ) → at < length names → name ≡ get_or names at name → take (at + 1) names ≡ take at names ++ name ∷ []
 taken names at name within is = sym (ap (λ (k : ℕ). take k names) (one_more at)) ∙ take-suc names at name within ∙ ap (λ (x : List ℕ). take at names ++ x ∷ []) (sym is)
+
+-- the name that stands there was looked at
+pub long_on : {R : Type 0} (asks : R → Command → Answer → R → Type 0) (old : R) (path names : List (List ℕ)) (at : ℕ) (item shown again : List ℕ) (told after : Told) (s t : R) (a : Answer) → at < length names → item ≡ get_or names at item → shown ≡ item → again ≡ item → Longs asks old path (take at names) told s → AsksOn asks s (command_on deed.Look (path ++ shown ∷ [])) a t → after ≡ with_long path again told a → Longs asks old path (take (at + 1) names) after t
+long_on asks old path names at item shown again told after s t a within is e1 e2 h asked w = one (take at names) (take (at + 1) names) item told after s t a h (subst (λ (n : List ℕ). AsksOn asks s (command_on deed.Look (path ++ n ∷ [])) a t) e1 asked) (w ∙ ap (λ (n : List ℕ). with_long path n told a) e2) (taken names at item within is)

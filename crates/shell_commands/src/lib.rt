@@ -5,4 +5,5 @@
 pub mod doing;
 pub mod placing;
 pub mod shell;
+mod unfit;
 pub mod visiting;

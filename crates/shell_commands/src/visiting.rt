@@ -5,11 +5,12 @@ ghost use Rattle.std.specs.Prelude.{◌≡◌, ℕ, ◌≤◌, List, [], Bool, f
 ghost use Rattle.limits.specs.declared.TheConstants.{FILE_MOST};
 ghost use Rattle.shell_walks.specs.Storing.{Counts, CountsRead, Offers, PutsBytes, is_compared, is_kept};
 ghost use Rattle.shell_walks.specs.Telling.{unstored_text, why_of};
-ghost use Rattle.shell_commands.specs.Visiting.{AllCome, CountsFor, CountsGot, CountsPut, EndsGet, PutsAlone, Touches, TouchesFor, faulty_as, one_file, refused_as, said_of};
+ghost use Rattle.shell_commands.specs.Visiting.{AllCome, CountsFor, CountsGot, CountsPut, EndsGet, PutsAlone, Touches, TouchesFor, faulty_as, is_off, noted, one_file, refused_as, said_of};
 ghost use Rattle.shell_walks.specs.declared.tasks.Storing.{Storing as StoringOf};
 ghost use Rattle.shell_walks.specs.declared.tasks.Task.TheVariants as tasks;
 
 use crate::placing::{Place, make_place_over, place_news};
+use crate::unfit::bad_names;
 use lb_base::items::{Bytes, Items, Name};
 use shell_walks::asking::{Deed, ask_on, is_status, seen_of};
 use shell_walks::fetching::{Got, get};
@@ -21,7 +22,7 @@ use shell_walks::tasks::{Storing, Task, get_tasks, put_known, put_removals, put_
 use shell_walks::telling::{
     STORED, fault_words, note_line, path_line, put_unstored, put_why, why_of,
 };
-use shell_words::local::{LocalPath, is_component, local_name};
+use shell_words::local::LocalPath;
 use shell_words::path::copy_of;
 use shell_words::quoting::quoted;
 use std::alloc::{AllocError, Global};
@@ -79,6 +80,29 @@ fn leads(alloc: Global, more: Items<Task>, note: Bytes) -> Visited
     }
 }
 
+/// Nothing was done, and this is said.
+fn noted(alloc: Global, note: Bytes, is_off: bool) -> Visited
+    ensures exact { result ≡ noted note is_off }
+    ensures more { result.more ≡ [] }
+    ensures files { result.files ≡ 0 }
+{
+    Visited {
+        more: Items::new(alloc),
+        note,
+        news: Items::new(alloc),
+        files: 0,
+        bytes: 0,
+        is_off,
+    }
+}
+
+/// Whether there is no connection, so that nothing else need be begun.
+fn is_off(why: Why) -> bool
+    ensures { result ≡ is_off why }
+{
+    matches!(why, Why::NoLink)
+}
+
 /// This is said of a path of the server's with which that happened.
 fn said(alloc: Global, path: &[Name], why: Why, words: &[u8]) -> Result<Visited, AllocError>
     ensures exact { IfOk result (λ v. v ≡ said_of path.now why words.now) }
@@ -86,9 +110,7 @@ fn said(alloc: Global, path: &[Name], why: Why, words: &[u8]) -> Result<Visited,
     ensures files { IfOk result (λ v. v.files ≡ 0) }
 {
     let note = path_line(alloc, path, words)?;
-    let mut visit = leads(alloc, Items::new(alloc), note);
-    visit.is_off = matches!(why, Why::NoLink);
-    Ok(visit)
+    Ok(noted(alloc, note, is_off(why)))
 }
 
 /// Why something wasn't done with a path of the server's is said.
@@ -121,37 +143,7 @@ fn faulty(alloc: Global, local: &str, fault: LocalFault) -> Result<Visited, Allo
 {
     let about = quoted(alloc, local.as_bytes())?;
     let note = note_line(alloc, about.as_slice(), fault_words(fault))?;
-    Ok(leads(alloc, Items::new(alloc), note))
-}
-
-/// Why this host can't have a name.
-fn name_fault(name: &[u8]) -> LocalFault {
-    if is_component(name) {
-        LocalFault::NotText
-    } else {
-        LocalFault::BadName
-    }
-}
-
-/// What is said of a name in a folder that this host can't have.
-fn bad_name(alloc: Global, folder: &[u8], name: &[u8]) -> Result<Bytes, AllocError> {
-    let mut path = Items::copy_of(alloc, folder)?;
-    path.extend_from_slice(b"/")?;
-    path.extend_from_slice(name)?;
-    let about = quoted(alloc, path.as_slice())?;
-    note_line(alloc, about.as_slice(), fault_words(name_fault(name)))
-}
-
-/// What is said of the names in a folder that this host can't have, a line for each.
-fn bad_names(alloc: Global, folder: &[u8], names: &[Name]) -> Result<Bytes, AllocError> {
-    let mut note = Items::new(alloc);
-    for name in names {
-        if local_name(name.as_slice()).is_none() {
-            let line = bad_name(alloc, folder, name.as_slice())?;
-            note.extend_from_slice(line.as_slice())?;
-        }
-    }
-    Ok(note)
+    Ok(noted(alloc, note, false))
 }
 
 /// A copy of bytes that are to be compared is offered, where there is memory for one: what is written anew isn't

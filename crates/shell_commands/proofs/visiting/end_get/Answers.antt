@@ -10,3 +10,6 @@ returns-in-Refused-clause-touches g c = stayed _ _ _ refl
 
 pub returns-in-Fault-clause-touches : goal.returns-in-Fault-clause-touches
 returns-in-Fault-clause-touches g c = stayed _ _ _ refl
+
+pub returns-in-Refused-Refused-eq21-2-clause-touches : goal.returns-in-Refused-Refused-eq21-2-clause-touches
+returns-in-Refused-Refused-eq21-2-clause-touches g c = stayed _ _ _ refl

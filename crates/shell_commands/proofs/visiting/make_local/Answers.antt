@@ -12,3 +12,6 @@ returns-in_default g c = only_made _ _ _ _ c.make_folder.ensures
 
 pub returns-in_default-2 : goal.returns-in_default-2
 returns-in_default-2 g c = only_made _ _ _ _ c.make_folder.ensures
+
+pub returns-in-Hidden : goal.returns-in-Hidden
+returns-in-Hidden g c = both _ _ _ _ (only_made _ _ _ _ c.make_folder.ensures) (only_found _ _ _ _ c.kind.ensures)

@@ -15,4 +15,4 @@ pub returns-in-Folder-clause-come : goal.returns-in-Folder-clause-come
 returns-in-Folder-clause-come g c = c.get_into.ensures.come c.args.id
 
 pub returns-in-Folder-clause-counts : goal.returns-in-Folder-clause-counts
-returns-in-Folder-clause-counts g c = not_got _ _ _ c.get_into.result c.get_into.ensures.files
+returns-in-Folder-clause-counts g c = not_got _ _ _ _ _ _ _ c.get_into.result c.get_into.ensures.files

@@ -21,7 +21,7 @@ pub returns-in-Hidden-clause-touches : goal.returns-in-Hidden-clause-touches
 returns-in-Hidden-clause-touches g c = only_found _ _ _ _ c.kind.ensures
 
 pub returns-in-File-clause-counts : goal.returns-in-File-clause-counts
-returns-in-File-clause-counts g c = put_so _ _ _ _ _ _ _ c.put_file.result c.put_file.ensures.counts
+returns-in-File-clause-counts g c = put_so _ _ _ _ _ _ _ _ _ _ _ c.put_file.result c.put_file.ensures.counts
 
 pub returns-in-Folder-clause-counts : goal.returns-in-Folder-clause-counts
-returns-in-Folder-clause-counts g c = not_put _ _ _ _ _ c.put_folder.result c.put_folder.ensures.files
+returns-in-Folder-clause-counts g c = not_put _ _ _ _ _ _ _ _ _ c.put_folder.result c.put_folder.ensures.files
