@@ -23,8 +23,8 @@ loop-turn-preserved g c =
       pass = follows_trans c.args.shared.now.post c.args.pass c.loop-turn.pass c.got-next.result.0 c.loop-turn.invariant.pass (follows_trans c.args.shared.now.post c.loop-turn.pass c.read-read.result.0 c.got-next.result.0 c.read-read.ensures.follows c.got-next.ensures.follows);
       taken = taken_more (g.L.Link.left c.args.link.now) (g.L.Link.left c.loop-turn.link) (g.L.Link.left c.next-in-loop-turn.new.link) c.loop-turn.inbox c.next-in-loop-turn.new.self given.0 _ c.loop-turn.invariant.taken given.1 given.2;
       heard = hears_more g.H.Journaled.journal g.H.Turns.hears c.args.session (g.L.Link.left c.args.link.now) (g.L.Link.left c.loop-turn.link) (g.L.Link.left c.next-in-loop-turn.new.link) c.loop-turn.inbox c.next-in-loop-turn.new.self given.0 _ c.args.pass c.loop-turn.pass c.got-next.result.0 c.loop-turn.invariant.heard given.1 given.2
-          (subst (λ bytes. IsHeard g.H.Journaled.journal g.H.Turns.hears c.args.session bytes c.loop-turn.pass c.got-next.result.0) c.as_slice.ensures
-          (heard_between g.H.Journaled.journal g.H.Turns.hears c.args.session c.as_slice.result.now c.loop-turn.pass c.read-read.result.0 c.got-next.result.0 c.got-next.result.0 c.read-read.ensures.follows.1 (c.got-next.ensures.heard c.read-read.ensures.parsed) (prefix_self (seen c.got-next.result.0))));
+          (subst (λ bytes. IsHeard g.H.Journaled.journal g.H.Turns.hears c.args.session bytes c.loop-turn.pass c.got-next.result.0) c.as_slice-bytes.ensures
+          (heard_between g.H.Journaled.journal g.H.Turns.hears c.args.session c.as_slice-bytes.result.now c.loop-turn.pass c.read-read.result.0 c.got-next.result.0 c.got-next.result.0 c.read-read.ensures.follows.1 (c.got-next.ensures.heard c.read-read.ensures.parsed) (prefix_self (seen c.got-next.result.0))));
       out = c.in-Ok-next.ensures.out ∙ c.loop-turn.invariant.out;
       later = omega (arith, c.loop-turn.invariant.later, c.in-Ok-next.ensures.later);
     }
