@@ -1,3 +1,4 @@
 pub mod Counting
+pub mod Lined
 pub mod Touching
 pub mod Walking

@@ -207,7 +207,9 @@ impl Shell {
         alloc: Global,
         host: &mut F,
         word: &[u8],
-    ) -> Result<Told, AllocError> {
+    ) -> Result<Told, AllocError>
+        ensures { self.new.dir ≡ self.old.dir }
+    {
         if word.is_empty() {
             return self.tell_folder(alloc);
         }
