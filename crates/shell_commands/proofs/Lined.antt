@@ -29,7 +29,7 @@ mv_so asks content v line d dir p path word old new told is e1 e2 e3 m =
     let a : MovesTo asks old dir p word told new = subst (λ (x : List (List ℕ)). MovesTo asks old x p word told new) e1 m in
     let b : MovesTo asks old dir path word told new = subst (λ (x : List (List ℕ)). MovesTo asks old dir x word told new) e2 a in
     let c : MovesTo asks old dir path (operand_of line 1) told new = subst (λ (x : List ℕ). MovesTo asks old dir path x told new) e3 b in
-    subst (λ (x : Verb). DoesPath asks content x line dir path old (went.Told told) new dir) (sym is) (refl, told, refl, c)
+    subst (λ (x : Verb). DoesPath asks content x line dir path old (went.Told told) new dir) (sym is) (refl, (told, refl, c))
 
 pub lcd_so : {R : Type 0} (asks : R → Command → Answer → R → Type 0) (content : R → ℕ → List ℕ) (v : Verb) (line : Line) (dir dir' : List (List ℕ)) (old new : R) (w : Went) → v ≡ verb.Lcd → new ≡ old → dir' ≡ dir → Runs asks content v line dir old w new dir'
 lcd_so asks content v line dir dir' old new w is e1 e2 = subst (λ (x : Verb). Runs asks content x line dir old w new dir') (sym is) (e1, e2)
