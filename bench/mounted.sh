@@ -34,11 +34,13 @@ for _ in $(seq "$rounds"); do
     cmp "$work/one/h" "$work/other/k"
     ended
     rm -f "$work/stored/h"
-    "$work/baseline" serve "$port" "$work/stored/h" "$((mib * 1048576))" &
+    at=$((port + 10000)) # the server's own may not be free at once
+    "$work/baseline" serve "$at" "$work/stored/h" "$((mib * 1048576))" &
     server=$!
-    listened "$port"
-    their_put=$(least "$their_put" "$(theirs put "$port" one/h)")
-    their_get=$(least "$their_get" "$(theirs get "$port" copy "$((mib * 1048576))")")
+    disown "$server"
+    listened "$at"
+    their_put=$(least "$their_put" "$(theirs put "$at" one/h)")
+    their_get=$(least "$their_get" "$(theirs get "$at" copy "$((mib * 1048576))")")
     cmp "$work/one/h" "$work/copy"
 done
 echo "put of $mib MiB: $put us, C $their_put us, ratio $(ratio "$put" "$their_put")"
