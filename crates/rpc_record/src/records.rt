@@ -166,6 +166,13 @@ impl Records {
         self.rest.len()
     }
 
+    /// Why no record can follow, if none can.
+    pub fn spoilt(&self) -> Option<Refusal>
+        ensures { result ≡ self.now.spoilt }
+    {
+        self.spoilt
+    }
+
     /// Takes a piece of the stream, and gives the records that end in it.
     ///
     /// As soon as all four bytes of a header are there that no record may have, it says why, beside

@@ -9,7 +9,7 @@ ghost use Rattle.server_core.specs.Step.{server_step, server_step_under, with_tr
 ghost use Rattle.file_tree.specs.Stores.{Keeps};
 ghost use Rattle.file_tree.specs.Opening.{can_open};
 ghost use Rattle.temp_files.specs.Temps.{temp_at, whole_of};
-ghost use Rattle.tree_reading.specs.Reading.{stands_for};
+ghost use Rattle.tree_reading.specs.Reading.{content, stands_for, Answers};
 
 use crate::event::{Event, ServerStep};
 use crate::journal::Entry;
@@ -21,7 +21,7 @@ use chunk_calls::entering::enter_content;
 use chunk_index::place::Place;
 use file_tree::tree::Tree;
 use hash_calls::call::Commit;
-use lb_base::items::Name;
+use lb_base::items::{Bytes, Name};
 use server_rules::sessions::Sessions;
 use shared_bytes::SharedBytes;
 use std::alloc::{AllocError, Global};
@@ -30,6 +30,7 @@ use store::store::Store;
 use temp_files::temps::Temps;
 use tree_nodes::content::Content;
 use tree_nodes::node::Body;
+use tree_reading::error::TreeError;
 use tree_reading::reading::Standing;
 use wire::message::Waiting;
 
@@ -200,6 +201,13 @@ impl Server {
         ensures { result ≡ spent self.now.leasing.calls }
     {
         self.state.calls.spent()
+    }
+
+    /// A copy of a file's content.
+    pub fn content(&self, file: u64) -> Result<Bytes, TreeError>
+        ensures { Answers (content self.now.tree.nodes file) result }
+    {
+        self.state.tree.content(file)
     }
 
     /// How many sessions stand.
