@@ -1,4 +1,5 @@
 pub mod Index
+pub mod Raw
 pub mod Register
 pub mod Summary
 pub mod Test

@@ -4,7 +4,7 @@
 -- A file is a register: at each moment it holds one whole content, or it is absent. Steps are numbered
 -- from 1, and a moment is the number of a step. An operation begins at a step and ends at that step or a
 -- later one, or hasn't ended. It may have a point: the step at which it read its file or changed it.
-use Rattle.std.specs.Prelude.{◌≡◌, ◌≢◌, ℕ, ◌≤◌, List, [], ◌∷◌, Bool, true, false, ◌&&◌, ◌||◌, ◌==◌, nat_lt, if◌then◌else◌, Option, Some, None, unwrap_or, find, filter, All, AllPairs, IsTrue, IsSome}
+use Rattle.std.specs.Prelude.{◌≡◌, ◌≢◌, ℕ, ◌-◌, ◌≤◌, List, [], ◌∷◌, length, take, Bool, true, false, ◌&&◌, ◌||◌, ◌==◌, nat_lt, if◌then◌else◌, Option, Some, None, unwrap_or, find, filter, All, AllPairs, IsTrue, IsSome}
 use Rattle.std.specs.Option.{option_map, option_map_or}
 use Rattle.register_model.specs.declared.op.Word.{Word}
 use Rattle.register_model.specs.declared.op.Word.TheVariants.{Open, Close, Make, Remove, Rename}
@@ -12,13 +12,25 @@ use Rattle.register_model.specs.declared.op.Outcome.{Outcome}
 use Rattle.register_model.specs.declared.op.Outcome.TheVariants as outcome
 use Rattle.register_model.specs.declared.op.Op.{Op}
 use Rattle.register_model.specs.declared.op.Opening.{Opening}
+use Rattle.register_model.specs.declared.raw.Raw.{Raw}
 
--- the version of LBFS that the clients speak, the files that were there at first, the operations in the order of their begins, and the number of steps
+-- The version of LBFS that the clients speak, the files that were there at first, the operations, and the number of steps. First come the operations of clients, in the
+-- order of their begins, and then the changes that sessions made which are no client's, in the order in which they were made: none where the run has no such session.
 pub record History : Type 0 where
   pub lbfs : ℕ
   pub opening : List Opening
   pub ops : List Op
+  pub raws : Option (List Raw)
   pub steps : ℕ
+
+-- how many changes of others there are
+abbrev pub count_raws : Option (List Raw) → ℕ
+count_raws None = 0
+count_raws (Some rs) = length rs
+
+-- the operations that clients were told to do
+abbrev pub of_clients : History → List Op
+of_clients h = take (length h.ops - count_raws h.raws) h.ops
 
 -- what a file is at a moment: a whole content, or absent
 abbrev pub Value : Type 0

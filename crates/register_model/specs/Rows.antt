@@ -1,5 +1,5 @@
 -- Worked histories: their texts, their counts, and what files are at moments of them.
-use Rattle.std.specs.Prelude.{◌≡◌, ℕ, ◌∷◌, List, [], ◌++◌, Option, Some, None, codes, refl}
+use Rattle.std.specs.Prelude.{◌≡◌, ℕ, ◌∷◌, List, [], ◌++◌, map, Option, Some, None, codes, refl}
 use Rattle.std.specs.Fmt.{digits}
 use Rattle.hex.specs.Hex.{encode_with}
 use Rattle.register_model.specs.declared.op.Word.{Word}
@@ -8,8 +8,12 @@ use Rattle.register_model.specs.declared.op.Outcome.{Outcome}
 use Rattle.register_model.specs.declared.op.Outcome.TheVariants as outcome
 use Rattle.register_model.specs.declared.op.Op.{Op}
 use Rattle.register_model.specs.declared.op.Traffic.{Traffic}
+use Rattle.register_model.specs.declared.raw.Raw.{Raw}
+use Rattle.register_model.specs.declared.raw.RawKind.{RawKind}
+use Rattle.register_model.specs.declared.raw.RawKind.TheVariants as raw_kind
+use Rattle.register_model.specs.Raw.{ops_of}
 use Rattle.register_model.specs.Register.{History, value_at, Absent}
-use Rattle.register_model.specs.Text.{number, word_text, moment, outcome_text, traffic_text, op_line, history_text, summary_text}
+use Rattle.register_model.specs.Text.{number, word_text, moment, outcome_text, traffic_text, op_line, raw_lines, history_text, summary_text}
 
 -- ---- digests: SHA-1 of nothing, "abc", "a", "b" and "c"
 
@@ -64,6 +68,7 @@ one_open = record {
   ops =
       op 1 word.Open 2 3 (Some 7) (Some 4) (outcome.Opened 3 sha1_abc) (codes "abc") (sent 0 0 1 3)
       ∷ [];
+  raws = None;
   steps = 7;
 }
 
@@ -74,7 +79,7 @@ unfolding digits encode_with
 text_of_one_open = refl
 
 -- of clients that speak another version
-pub text_of_another_version : history_text (record { lbfs = 4; opening = []; ops = []; steps = 7 }) ≡ codes "lbfs-history 4\nend ops 0 steps 7\n"
+pub text_of_another_version : history_text (record { lbfs = 4; opening = []; ops = []; raws = None; steps = 7 }) ≡ codes "lbfs-history 4\nend ops 0 steps 7\n"
 unfolding digits encode_with
 text_of_another_version = refl
 
@@ -87,6 +92,7 @@ one_close = record {
       op 1 word.Open 2 3 (Some 5) (Some 4) (outcome.Opened 0 sha1_none) [] (sent 0 0 0 0)
       ∷ op 1 word.Close 2 6 (Some 11) (Some 10) (outcome.Closed 2 0 sha1_none) [] (sent 0 0 0 0)
       ∷ [];
+  raws = None;
   steps = 11;
 }
 
@@ -105,6 +111,7 @@ gone = record {
   ops =
       op 1 word.Open 9 3 (Some 5) (Some 4) (outcome.Refused 70) [] (sent 0 0 0 0)
       ∷ [];
+  raws = None;
   steps = 5;
 }
 
@@ -122,6 +129,7 @@ going = record {
   ops =
       op 1 word.Open 9 3 None None outcome.Running [] (sent 0 0 0 0)
       ∷ [];
+  raws = None;
   steps = 3;
 }
 
@@ -142,6 +150,7 @@ no_link = record {
       ∷ op 1 word.Open 2 7 None None outcome.Running [] (sent 0 0 0 0)
       ∷ op 1 word.Open 2 8 (Some 8) None outcome.Busy [] (sent 0 0 0 0)
       ∷ [];
+  raws = None;
   steps = 8;
 }
 
@@ -164,6 +173,7 @@ lost = record {
       ∷ op 1 word.Write 2 8 (Some 8) None outcome.Done [] (sent 0 0 0 0)
       ∷ op 1 word.Close 2 9 (Some 17) (Some 18) outcome.Lost (codes "b") (sent 1 1 0 1)
       ∷ [];
+  raws = None;
   steps = 18;
 }
 
@@ -188,6 +198,7 @@ indexed = record {
       ∷ op 1 word.Open 2 13 (Some 17) (Some 14) (outcome.Opened 1 sha1_a) (codes "a") (sent 0 0 1 1)
       ∷ op 1 word.Open 3 18 (Some 20) (Some 19) (outcome.Opened 1 sha1_a) (codes "a") (sent 0 0 0 0)
       ∷ [];
+  raws = None;
   steps = 20;
 }
 
@@ -227,6 +238,7 @@ told = record {
       ∷ op 1 word.Open 0 21 (Some 23) None (outcome.Refused 2) [] (sent 0 0 0 0)
       ∷ op 1 word.Rewrite 2 24 (Some 26) None outcome.Done [] (sent 0 0 0 0)
       ∷ [];
+  raws = None;
   steps = 26;
 }
 
@@ -260,6 +272,7 @@ renamed = record {
       ∷ op 1 word.List 0 24 (Some 28) None (outcome.Names (codes "b" ∷ [])) [] (sent 0 0 0 0)
       ∷ op 1 word.Open 4 29 (Some 31) (Some 30) (outcome.Refused 70) [] (sent 0 0 0 0)
       ∷ [];
+  raws = None;
   steps = 31;
 }
 
@@ -495,6 +508,7 @@ written = record {
       ∷ ended_so word.Write outcome.Done (sent 0 0 0 0)
       ∷ ended_so word.Close (outcome.Closed 2 9000 sha1_b) (sent 3 1 0 2090)
       ∷ [];
+  raws = None;
   steps = 1;
 }
 
@@ -513,6 +527,7 @@ left = record {
       ended_so word.Open (outcome.Opened 9000 sha1_a) (sent 0 0 2 9000)
       ∷ ended_so word.Abandon outcome.Done (sent 0 0 0 0)
       ∷ [];
+  raws = None;
   steps = 1;
 }
 
@@ -546,6 +561,7 @@ lives = record {
       ∷ op 1 word.Close 4 8 (Some 11) (Some 10) (outcome.Closed 2 1 sha1_b) (codes "b") (sent 1 1 0 1)
       ∷ op 3 word.Remove 2 9 (Some 13) (Some 12) outcome.Done [] (sent 0 0 0 0)
       ∷ [];
+  raws = None;
   steps = 23;
 }
 
@@ -646,6 +662,51 @@ pub close_behind_a_relay : op_line 4 (op 2 word.Close 2 22 (Some 36) (Some 35) (
     ≡ codes "op 4 client 2 close file 2 begin 22 end 36 point 35 Closed 2 1 e9d71f5ee7c92d6dc9e92ffdad17b8bd49418f98 cond 1 tmp 1 read 0 data 1\n"
 unfolding digits encode_with
 close_behind_a_relay = refl
+
+-- ---- sessions without a client
+
+abbrev pub raw : ℕ → RawKind → ℕ → ℕ → ℕ → ℕ → ℕ → List ℕ → List ℕ → Raw
+raw session kind file begin point version len sha1 value = record { session = session; kind = kind; file = file; begin = begin; point = point; version = version; len = len; sha1 = sha1; value = value }
+
+-- a stranger empties a file, and an open gets that
+abbrev pub emptied : List Raw
+emptied = raw 2 raw_kind.Commit 2 5 6 2 0 sha1_none [] ∷ []
+
+abbrev pub by_a_stranger : History
+by_a_stranger = record {
+  lbfs = 1;
+  opening = record { file = 2; content = codes "a" } ∷ [];
+  ops = op 1 word.Open 2 7 (Some 9) (Some 8) (outcome.Opened 0 sha1_none) [] (sent 0 0 0 0) ∷ ops_of (Some emptied);
+  raws = Some emptied;
+  steps = 9;
+}
+
+pub text_of_by_a_stranger : history_text by_a_stranger ≡ codes "lbfs-history 1\n"
+    ++ codes "op 1 client 1 open file 2 begin 7 end 9 point 8 Opened 0 da39a3ee5e6b4b0d3255bfef95601890afd80709 cond 0 tmp 0 read 0 data 0\n"
+    ++ codes "raw session 2 Commit file 2 begin 5 point 6 version 2 0 da39a3ee5e6b4b0d3255bfef95601890afd80709\n"
+    ++ codes "end ops 1 raw 1 steps 9\n"
+unfolding digits encode_with
+text_of_by_a_stranger = refl
+
+-- it isn't counted but in the journal
+pub summary_of_by_a_stranger : summary_text by_a_stranger 1 ≡ codes "ops 1 opened 1 closed 0 other 0 refused 0 running 0\ncond 0 tmp 0 read 0 data 0\njournal 1\n"
+unfolding digits
+summary_of_by_a_stranger = refl
+
+-- and at its point it is a change of the file
+pub value_by_a_stranger : map (value_at by_a_stranger 2) (1 ∷ 6 ∷ 7 ∷ []) ≡ Some (codes "a") ∷ Some (codes "a") ∷ Some [] ∷ []
+value_by_a_stranger = refl
+
+-- one that did nothing
+pub text_of_an_idle_stranger : history_text (record { lbfs = 1; opening = []; ops = []; raws = Some []; steps = 2 }) ≡ codes "lbfs-history 1\nend ops 0 raw 0 steps 2\n"
+unfolding digits
+text_of_an_idle_stranger = refl
+
+-- what is made and removed
+pub lines_of_strangers : raw_lines (Some (raw 1 raw_kind.Make 3 5 5 1 0 sha1_none [] ∷ raw 12 raw_kind.Remove 3 9 11 2 0 sha1_none [] ∷ []))
+    ≡ codes "raw session 1 Make file 3 begin 5 point 5 version 1 0 da39a3ee5e6b4b0d3255bfef95601890afd80709\nraw session 12 Remove file 3 begin 9 point 11 version 2 0 da39a3ee5e6b4b0d3255bfef95601890afd80709\n"
+unfolding digits encode_with
+lines_of_strangers = refl
 
 -- an open behind the commit of a session without a client
 pub open_of_what_a_stranger_left : op_line 1 (op 1 word.Open 2 7 (Some 9) (Some 8) (outcome.Opened 0 sha1_none) [] (sent 0 0 0 0))

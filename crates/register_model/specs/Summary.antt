@@ -11,7 +11,7 @@ use Rattle.register_model.specs.declared.summary.Share.TheVariants as share
 use Rattle.register_model.specs.declared.summary.Endings.{Endings}
 use Rattle.register_model.specs.declared.summary.Totals.{Totals}
 use Rattle.register_model.specs.declared.summary.Counts.{Counts}
-use Rattle.register_model.specs.Register.{History, is_opened, is_closed}
+use Rattle.register_model.specs.Register.{History, of_clients, is_opened, is_closed}
 
 abbrev pub is_running : Outcome → Bool
 is_running outcome.Running = true
@@ -58,5 +58,6 @@ total of ops = sum_by (λ o. of o.traffic) ops
 abbrev pub totals_of : List Op → Totals
 totals_of ops = record { cond = sum_by (λ o. o.traffic.cond) ops; tmp = sum_by (λ o. o.traffic.tmp) ops; read = sum_by (λ o. o.traffic.read) ops; «data» = sum_by (λ o. o.traffic.data) ops }
 
+-- others' changes aren't counted
 abbrev pub counts_of : History → Counts
-counts_of h = record { ops = length h.ops; endings = endings_of h.ops; totals = totals_of h.ops }
+counts_of h = let ops = of_clients h in record { ops = length ops; endings = endings_of ops; totals = totals_of ops }

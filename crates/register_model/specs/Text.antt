@@ -13,7 +13,10 @@ use Rattle.register_model.specs.declared.op.Op.{Op}
 use Rattle.register_model.specs.declared.summary.Endings.{Endings}
 use Rattle.register_model.specs.declared.summary.Totals.{Totals}
 use Rattle.register_model.specs.declared.summary.Counts.{Counts}
-use Rattle.register_model.specs.Register.{History}
+use Rattle.register_model.specs.declared.raw.Raw.{Raw}
+use Rattle.register_model.specs.declared.raw.RawKind.{RawKind}
+use Rattle.register_model.specs.declared.raw.RawKind.TheVariants as kind
+use Rattle.register_model.specs.Register.{History, of_clients}
 use Rattle.register_model.specs.Summary.{counts_of, totals_of}
 
 -- a word as the command of a trace has it
@@ -101,9 +104,36 @@ abbrev pub op_lines : ℕ → List Op → List ℕ
 op_lines n [] = []
 op_lines n (o ∷ os) = op_line n o ++ op_lines (n + 1) os
 
--- the last line: how many operations and steps there were
+-- what a session that is no client's did to a file
+abbrev pub kind_text : RawKind → List ℕ
+kind_text kind.Commit = codes "Commit"
+kind_text kind.Make = codes "Make"
+kind_text kind.Remove = codes "Remove"
+
+-- whose change it is, and of what
+abbrev pub raw_name : Raw → List ℕ
+raw_name r = codes "raw session" ++ number r.session ++ codes " " ++ kind_text r.kind ++ codes " file" ++ number r.file
+
+-- when it was asked for and made, and what it left
+abbrev pub raw_told : Raw → List ℕ
+raw_told r = codes " begin" ++ number r.begin ++ codes " point" ++ number r.point ++ codes " version" ++ number r.version ++ number r.len ++ bytes_text r.sha1
+
+abbrev pub raw_line : Raw → List ℕ
+raw_line r = raw_name r ++ raw_told r ++ codes "\n"
+
+-- the lines of such changes
+abbrev pub raw_lines : Option (List Raw) → List ℕ
+raw_lines None = []
+raw_lines (Some rs) = flat_map raw_line rs
+
+-- how many there were, where the run has such a session
+abbrev pub raw_count : Option (List Raw) → List ℕ
+raw_count None = []
+raw_count (Some rs) = codes " raw" ++ number (length rs)
+
+-- the last line: how many operations of clients there were, changes of others, and steps
 abbrev pub end_line : History → List ℕ
-end_line h = codes "end ops" ++ number (length h.ops) ++ codes " steps" ++ number h.steps ++ codes "\n"
+end_line h = codes "end ops" ++ number (length (of_clients h)) ++ raw_count h.raws ++ codes " steps" ++ number h.steps ++ codes "\n"
 
 -- the first line, with the version of LBFS that the clients speak
 abbrev pub first_line : History → List ℕ
@@ -111,7 +141,7 @@ first_line h = codes "lbfs-history" ++ number h.lbfs ++ codes "\n"
 
 -- the whole text
 abbrev pub history_text : History → List ℕ
-history_text h = first_line h ++ op_lines 1 h.ops ++ end_line h
+history_text h = first_line h ++ op_lines 1 (of_clients h) ++ raw_lines h.raws ++ end_line h
 
 -- how many operations were done
 abbrev pub done_text : Endings → List ℕ
@@ -131,4 +161,4 @@ totals_line t = codes "cond" ++ number t.cond ++ codes " tmp" ++ number t.tmp ++
 
 -- three lines of counts; the last is the number of entries in the server's journal, which is given
 abbrev pub summary_text : History → ℕ → List ℕ
-summary_text h journal = ops_line (counts_of h) ++ totals_line (totals_of h.ops) ++ codes "journal" ++ number journal ++ codes "\n"
+summary_text h journal = ops_line (counts_of h) ++ totals_line (totals_of (of_clients h)) ++ codes "journal" ++ number journal ++ codes "\n"

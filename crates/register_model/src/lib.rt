@@ -10,5 +10,6 @@ pub mod indexed;
 pub mod legal;
 pub mod op;
 mod openings;
+pub mod raw;
 pub mod summary;
 pub mod text;

@@ -129,10 +129,10 @@ pub struct Traffic {
     pub data: u64,
 }
 
-/// One operation of a client. Its number is its place in the history, from 1; steps are numbered
-/// from 1 too.
+/// One operation of a client, or the change of a file by a session that is no client's. The number of a
+/// client's is its place among them, from 1; steps are numbered from 1 too.
 pub struct Op {
-    /// The client's number, from 1.
+    /// The client's number, from 1, or 0 of a change by a session that is none's.
     pub client: u32,
     /// What it was to do.
     pub word: Word,

@@ -143,7 +143,7 @@ fn add_totals(ops: &[Op]) -> Totals
 pub fn summary(history: &History) -> Counts
     ensures { result ≡ counts_of history.now }
 {
-    let ops = history.ops();
+    let ops = history.of_clients();
     Counts {
         ops: ops.len(),
         endings: count_endings(ops),

@@ -1,13 +1,15 @@
 //! The text of a history, and that of its counts: `history_text` and `summary_text` of
 //! `specs/Text.antt`.
 
-ghost use Rattle.std.specs.Prelude.{◌≡◌, ℕ, ◌+◌, ◌<◌, ◌^◌, List, ◌++◌, length, codes, OnOk, IfOk, string_bytes};
+ghost use Rattle.std.specs.Prelude.{◌≡◌, ℕ, ◌+◌, ◌<◌, ◌^◌, List, ◌++◌, Some, length, codes, OnOk, IfOk, string_bytes};
 ghost use Rattle.std.specs.Fmt.{decimal};
+ghost use Rattle.std.specs.Option.{option_copied};
 ghost use Rattle.register_model.specs.declared.op.Outcome.TheVariants as outcome;
-ghost use Rattle.register_model.specs.Text.{history_text, summary_text, done_text, undone_text, ops_line, totals_line, op_name, op_times, op_line, op_lines, end_line, outcome_text, IsWordAlone, word_text, bytes_text, moment, traffic_text};
+ghost use Rattle.register_model.specs.Text.{history_text, summary_text, done_text, undone_text, ops_line, totals_line, op_name, op_times, op_line, op_lines, kind_text, raw_name, raw_told, raw_line, raw_lines, end_line, outcome_text, IsWordAlone, word_text, bytes_text, moment, traffic_text};
 
 use crate::history::History;
 use crate::op::{Op, Outcome, Traffic, Word};
+use crate::raw::{Raw, RawKind};
 use crate::summary::{Counts, Endings, Totals, summary};
 use lb_base::items::{Bytes, Items, Name};
 use std::alloc::{AllocError, Global};
@@ -168,7 +170,7 @@ fn put_op(alloc: Global, out: &mut String, number: u64, op: &Op) -> Result<(), A
     out.push_str("\n")
 }
 
-/// The lines of all operations.
+/// The lines of all operations of clients.
 fn put_ops(alloc: Global, out: &mut String, ops: &[Op]) -> Result<(), AllocError>
     ensures { OnOk result (string_bytes out.new ≡ string_bytes out.old ++ op_lines 1 ops.now) }
 {
@@ -180,16 +182,89 @@ fn put_ops(alloc: Global, out: &mut String, ops: &[Op]) -> Result<(), AllocError
     Ok(())
 }
 
-/// The text of a history: its first line, a line for each operation, and its last line.
+/// What a session that is no client's did to a file.
+fn kind_of(kind: RawKind) -> &'static str
+    ensures { result.now ≡ kind_text kind }
+{
+    match kind {
+        RawKind::Commit => "Commit",
+        RawKind::Make => "Make",
+        RawKind::Remove => "Remove",
+    }
+}
+
+/// Whose change it is, and of what.
+fn put_raw_name(out: &mut String, raw: &Raw) -> Result<(), AllocError>
+    ensures { OnOk result (string_bytes out.new ≡ string_bytes out.old ++ raw_name raw.now) }
+{
+    let kind = kind_of(raw.kind);
+    let (session, file) = (raw.session, raw.file);
+    write!(out, "raw session {session} {kind} file {file}")
+}
+
+/// When it was asked for and made, and what it left.
+fn put_raw_told(alloc: Global, out: &mut String, raw: &Raw) -> Result<(), AllocError>
+    ensures { OnOk result (string_bytes out.new ≡ string_bytes out.old ++ raw_told raw.now) }
+{
+    let (begin, point, version, len) = (raw.begin, raw.point, raw.version, raw.len);
+    write!(out, " begin {begin} point {point}")?;
+    write!(out, " version {version} {len}")?;
+    put_bytes(alloc, out, &raw.sha1)
+}
+
+/// The line of a change by a session that is no client's.
+fn put_raw(alloc: Global, out: &mut String, raw: &Raw) -> Result<(), AllocError>
+    ensures { OnOk result (string_bytes out.new ≡ string_bytes out.old ++ raw_line raw.now) }
+{
+    put_raw_name(out, raw)?;
+    put_raw_told(alloc, out, raw)?;
+    out.push_str("\n")
+}
+
+/// The lines of such changes.
+fn put_all(alloc: Global, out: &mut String, raws: &[Raw]) -> Result<(), AllocError>
+    ensures { OnOk result (string_bytes out.new ≡ string_bytes out.old ++ raw_lines (Some raws.now)) }
+{
+    for raw in raws {
+        put_raw(alloc, out, raw)?;
+    }
+    Ok(())
+}
+
+/// The lines of all of them, if there is such a session.
+fn put_raws(alloc: Global, out: &mut String, raws: Option<&[Raw]>) -> Result<(), AllocError>
+    ensures { OnOk result (string_bytes out.new ≡ string_bytes out.old ++ raw_lines (option_copied raws.entry)) }
+{
+    match raws {
+        Some(raws) => put_all(alloc, out, raws),
+        None => Ok(()),
+    }
+}
+
+/// The last line.
+fn put_end(out: &mut String, history: &History) -> Result<(), AllocError>
+    ensures { OnOk result (string_bytes out.new ≡ string_bytes out.old ++ end_line history.now) }
+{
+    let (count, steps) = (history.of_clients().len(), history.steps());
+    write!(out, "end ops {count}")?;
+    if let Some(raws) = history.raws() {
+        let raws = raws.len();
+        write!(out, " raw {raws}")?;
+    }
+    write!(out, " steps {steps}\n")
+}
+
+/// The text of a history: its first line, a line for each operation of a client and for each change of
+/// others, and its last line.
 pub fn text(alloc: Global, history: &History) -> Result<Bytes, AllocError>
     ensures { IfOk result (λ bytes. bytes ≡ history_text history.now) }
 {
     let mut out = String::new(alloc);
     let lbfs = history.lbfs();
     write!(out, "lbfs-history {lbfs}\n")?;
-    put_ops(alloc, &mut out, history.ops())?;
-    let (count, steps) = (history.ops().len(), history.steps());
-    write!(out, "end ops {count} steps {steps}\n")?;
+    put_ops(alloc, &mut out, history.of_clients())?;
+    put_raws(alloc, &mut out, history.raws())?;
+    put_end(&mut out, history)?;
     Ok(Items::from_vec(out.into_bytes()))
 }
 

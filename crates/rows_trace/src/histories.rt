@@ -151,7 +151,7 @@ fn ops_of(alloc: Global, lines: &[&str], number: usize, instead: &str, out: &mut
 fn history_of(alloc: Global, rows: &Rows, number: usize, instead: &str, out: &mut Out) -> History {
     let files = files_of(alloc, rows.files.as_slice(), out);
     let ops = ops_of(alloc, rows.ops.as_slice(), number, instead, out);
-    History::new(1, files, ops, STEPS)
+    History::new(1, files, ops, None, STEPS)
 }
 
 /// Whether a history is legal by the test, and by the plain one.

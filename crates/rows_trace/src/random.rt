@@ -48,7 +48,7 @@ pub fn put_rounds(alloc: Global, files: &[&str], row: &str, out: &mut Out) {
     let (count, last) = first(row);
     let files = files_of(alloc, files, out);
     let ops = rounds(alloc, number(count), last.as_bytes(), out);
-    let (test, plain) = verdicts(alloc, History::new(1, files, ops, 23), out);
+    let (test, plain) = verdicts(alloc, History::new(1, files, ops, None, 23), out);
     out.truth(test);
     out.text(" ");
     out.truth(plain)
@@ -125,7 +125,7 @@ fn some_ops(alloc: Global, state: &mut u64, out: &mut Out) -> Items<Op> {
 fn some_verdicts(alloc: Global, files: &[&str], state: &mut u64, out: &mut Out) -> (bool, bool) {
     let ops = some_ops(alloc, state, out);
     let files = files_of(alloc, files, out);
-    verdicts(alloc, History::new(1, files, ops, 23), out)
+    verdicts(alloc, History::new(1, files, ops, None, 23), out)
 }
 
 /// `COUNT`: of so many histories how many are legal, and of how many the two tests say different things.

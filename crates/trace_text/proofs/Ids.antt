@@ -6,8 +6,8 @@ use Rattle.command_text.specs.Commands.{open_of, renew_of, rewrite_at, rewrite_o
 use Rattle.command_text.specs.Fields.{◌>>=◌, value_from, value_of, is_decimal, number_of, number_within, content_of, id_of}
 use Rattle.command_text.specs.Paths.{spot_of, path_of}
 use Rattle.command_text.specs.Reading.{Gives}
-use Rattle.trace_text.specs.Fields.{lbfs_of, reading_of, amount_of, who_of, key_of}
-use Rattle.trace_text.specs.Grammar.{version_of, term_of, drift_of, clients_of, dir_of, file_of, join_of, do_of, up_of, down_of, pass_of, settle_of, cut_of, hang_of, forge_of, clear_of, evict_of, warm_of, event_from, line_from, said_by, is_skipped, line_of}
+use Rattle.trace_text.specs.Fields.{lbfs_of, reading_of, amount_of, who_of, key_of, bytes_of}
+use Rattle.trace_text.specs.Grammar.{version_of, term_of, drift_of, clients_of, dir_of, file_of, join_of, do_of, up_of, down_of, pass_of, rawjoin_of, raw_of, settle_of, cut_of, hang_of, forge_of, clear_of, evict_of, warm_of, event_from, line_from, said_by, is_skipped, line_of}
 use Rattle.command_text.specs.Parts.{words_of}
 use Rattle.trace_text.specs.Reading.{IsTimely}
 use Rattle.command_text.specs.declared.line_error.LineError.{LineError}
@@ -17,7 +17,7 @@ use Rattle.command_text.specs.declared.path.PathCommand.{PathCommand}
 use Rattle.command_text.specs.declared.path.PathCommand.TheVariants.{Find, Rewrite as Renew, Look, LookRoot, List as Lists, Make, MakeDir, Remove, RemoveDir, Rename}
 use Rattle.command_text.specs.declared.path.Spot.{Spot}
 use Rattle.trace_text.specs.declared.line.Line.{Line}
-use Rattle.trace_text.specs.declared.line.Line.TheVariants.{Version, Term, Drift, Clients, Dir, File, Join, Do, Up, Down, Pass, Settle, Cut, Hang, Forge, Clear, Evict, Warm, Skipped}
+use Rattle.trace_text.specs.declared.line.Line.TheVariants.{Version, Term, Drift, Clients, Dir, File, Join, Do, Up, Down, Pass, RawJoin, Raw, Settle, Cut, Hang, Forge, Clear, Evict, Warm, Skipped}
 use Rattle.trace_text.proofs.Found.{Of, of_it, of_then, of_either, of_any}
 use Rattle.trace_text.proofs.ShortNames.{AreShort, IsShortSpot, AreNamesShort, short_spot, short_path}
 
@@ -225,6 +225,17 @@ of_pass (v ∷ w ∷ x ∷ []) = tt
 of_pass (v ∷ w ∷ x ∷ y ∷ []) = of_then (λ a. Unit {0}) IsFit (number_of v) _ (of_any (number_of v)) (λ n h. of_then (λ a. Unit {0}) IsFit (number_of w) _ (of_any (number_of w)) (λ k i. of_then (λ s. s < 2 ^ 63) IsFit (reading_of x) _ (of_reading x) (λ s j. of_then (λ a. Unit {0}) IsFit (reading_of y) (λ a. Some (Pass n k s a)) (of_any (reading_of y)) (λ a l. j))))
 of_pass (v ∷ w ∷ x ∷ y ∷ z ∷ ws) = tt
 
+of_rawjoin : (ws : List (List ℕ)) → Of IsFit (rawjoin_of ws)
+of_rawjoin [] = tt
+of_rawjoin (v ∷ []) = of_then (λ a. Unit {0}) IsFit (reading_of v) (λ s. Some (RawJoin s)) (of_any (reading_of v)) (λ s h. tt)
+of_rawjoin (v ∷ w ∷ ws) = tt
+
+of_raw : (ws : List (List ℕ)) → Of IsFit (raw_of ws)
+of_raw [] = tt
+of_raw (v ∷ []) = tt
+of_raw (v ∷ w ∷ []) = of_then (λ a. Unit {0}) IsFit (number_of v) _ (of_any (number_of v)) (λ n h. of_then (λ a. Unit {0}) IsFit (bytes_of w) (λ b. Some (Raw n b)) (of_any (bytes_of w)) (λ b i. tt))
+of_raw (v ∷ w ∷ x ∷ ws) = tt
+
 of_settle : (ws : List (List ℕ)) → Of IsFit (settle_of ws)
 of_settle [] = tt
 of_settle (v ∷ []) = of_then (λ s. s < 2 ^ 63) IsFit (reading_of v) (λ s. Some (Settle s)) (of_reading v) (λ s h. h)
@@ -272,9 +283,10 @@ of_warm (v ∷ w ∷ x ∷ ws) = tt
 of_event : (kind : List ℕ) (ws : List (List ℕ)) → Of IsFit (event_from kind ws)
 of_event kind ws =
     of_either IsFit (bytes_eq kind (codes "join")) _ _ (of_join ws) (of_either IsFit (bytes_eq kind (codes "do")) _ _ (of_do ws) (of_either IsFit (bytes_eq kind (codes "up")) _ _ (of_up ws)
-    (of_either IsFit (bytes_eq kind (codes "down")) _ _ (of_down ws) (of_either IsFit (bytes_eq kind (codes "pass")) _ _ (of_pass ws) (of_either IsFit (bytes_eq kind (codes "settle")) _ _ (of_settle ws)
+    (of_either IsFit (bytes_eq kind (codes "down")) _ _ (of_down ws) (of_either IsFit (bytes_eq kind (codes "pass")) _ _ (of_pass ws) (of_either IsFit (bytes_eq kind (codes "rawjoin")) _ _ (of_rawjoin ws)
+    (of_either IsFit (bytes_eq kind (codes "raw")) _ _ (of_raw ws) (of_either IsFit (bytes_eq kind (codes "settle")) _ _ (of_settle ws)
     (of_either IsFit (bytes_eq kind (codes "cut")) _ _ (of_cut ws) (of_either IsFit (bytes_eq kind (codes "hang")) _ _ (of_hang ws)
-    (of_either IsFit (bytes_eq kind (codes "forge")) _ _ (of_forge ws) (of_either IsFit (bytes_eq kind (codes "clear")) _ _ (of_clear ws) (of_either IsFit (bytes_eq kind (codes "evict")) _ _ (of_evict ws) (of_either IsFit (bytes_eq kind (codes "warm")) (warm_of ws) None (of_warm ws) tt)))))))))))
+    (of_either IsFit (bytes_eq kind (codes "forge")) _ _ (of_forge ws) (of_either IsFit (bytes_eq kind (codes "clear")) _ _ (of_clear ws) (of_either IsFit (bytes_eq kind (codes "evict")) _ _ (of_evict ws) (of_either IsFit (bytes_eq kind (codes "warm")) (warm_of ws) None (of_warm ws) tt)))))))))))))
 
 of_kind : (kind : List ℕ) (ws : List (List ℕ)) → Of IsFit (line_from kind ws)
 of_kind kind ws =

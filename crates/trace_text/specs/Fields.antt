@@ -1,7 +1,9 @@
 -- What the words of a line stand for, beyond what they stand for in commands.
 use Rattle.std.specs.Prelude.{ℕ, ◌+◌, ◌-◌, ◌*◌, ◌^◌, List, [], ◌∷◌, length, Bool, ◌&&◌, ◌==◌, nat_le, nat_lt, Option, Some, None, codes, bytes_eq, if◌then◌else◌}
 use Rattle.std.specs.List.{list_all}
-use Rattle.command_text.specs.Fields.{◌>>=◌, number_of, number_within, is_lower_digit}
+use Rattle.std.specs.Result.{result_ok}
+use Rattle.hex.specs.Hex.{decode_of}
+use Rattle.command_text.specs.Fields.{◌>>=◌, number_of, number_within, is_lower_digit, is_hex}
 use Rattle.trace_text.specs.declared.line.TheConstants.{LBFS_TRACED}
 use Rattle.trace_text.specs.declared.line.Amount.{Amount}
 use Rattle.trace_text.specs.declared.line.Amount.TheVariants as amount
@@ -19,6 +21,10 @@ reading_of word = number_within 0 (2 ^ 63 - 1) word
 -- how many bytes: `all`, or a number
 abbrev pub amount_of : List ℕ → Option Amount
 amount_of word = if bytes_eq word (codes "all") then Some amount.All else number_of word >>= λ n. Some (amount.Bytes n)
+
+-- the bytes that pairs of lower-case hex digits stand for, at least one
+abbrev pub bytes_of : List ℕ → Option (List ℕ)
+bytes_of word = if is_hex word then result_ok (decode_of word) else None
 
 -- whose index: `server`, or a client's number
 abbrev pub who_of : List ℕ → Option Who

@@ -6,8 +6,8 @@ use Rattle.command_text.specs.declared.command.Command.{Command}
 use Rattle.command_text.specs.Fields.{◌>>=◌, number_of, number_within, content_of}
 use Rattle.command_text.specs.Paths.{spot_of}
 use Rattle.trace_text.specs.declared.line.Line.{Line}
-use Rattle.trace_text.specs.declared.line.Line.TheVariants.{Version, Term, Drift, Clients, Dir, File, Join, Do, Up, Down, Pass, Settle, Cut, Hang, Forge, Clear, Evict, Warm, Skipped}
-use Rattle.trace_text.specs.Fields.{lbfs_of, reading_of, amount_of, who_of, key_of}
+use Rattle.trace_text.specs.declared.line.Line.TheVariants.{Version, Term, Drift, Clients, Dir, File, Join, Do, Up, Down, Pass, RawJoin, Raw, Settle, Cut, Hang, Forge, Clear, Evict, Warm, Skipped}
+use Rattle.trace_text.specs.Fields.{lbfs_of, reading_of, amount_of, who_of, key_of, bytes_of}
 use Rattle.command_text.specs.Parts.{words_of}
 
 -- lbfs-trace V
@@ -74,6 +74,16 @@ pass_of (session ∷ rounds ∷ server ∷ at ∷ []) =
     number_of session >>= λ n. number_of rounds >>= λ k. reading_of server >>= λ s. reading_of at >>= λ a. Some (Pass n k s a)
 pass_of words = None
 
+-- rawjoin s
+abbrev pub rawjoin_of : List (List ℕ) → Option Line
+rawjoin_of (server ∷ []) = reading_of server >>= λ s. Some (RawJoin s)
+rawjoin_of words = None
+
+-- raw S HEX
+abbrev pub raw_of : List (List ℕ) → Option Line
+raw_of (session ∷ digits ∷ []) = number_of session >>= λ n. bytes_of digits >>= λ bytes. Some (Raw n bytes)
+raw_of words = None
+
 -- settle s
 abbrev pub settle_of : List (List ℕ) → Option Line
 settle_of (server ∷ []) = reading_of server >>= λ s. Some (Settle s)
@@ -118,6 +128,8 @@ event_from kind words =
     else if bytes_eq kind (codes "up") then up_of words
     else if bytes_eq kind (codes "down") then down_of words
     else if bytes_eq kind (codes "pass") then pass_of words
+    else if bytes_eq kind (codes "rawjoin") then rawjoin_of words
+    else if bytes_eq kind (codes "raw") then raw_of words
     else if bytes_eq kind (codes "settle") then settle_of words
     else if bytes_eq kind (codes "cut") then cut_of words
     else if bytes_eq kind (codes "hang") then hang_of words

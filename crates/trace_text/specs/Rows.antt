@@ -1,6 +1,7 @@
 -- Worked lines.
 use Rattle.std.specs.Prelude.{◌≡◌, ℕ, List, [], ◌∷◌, ◌++◌, Option, Some, None, refl, codes, replicate, map}
 use Rattle.std.specs.Fmt.{digits}
+use Rattle.hex.specs.Hex.{decode_pairs}
 use Rattle.clock_rule.specs.declared.rule.ClockFault.TheVariants as clock
 use Rattle.command_text.specs.declared.content.Part.TheVariants.{Bytes, Zeros}
 use Rattle.trace_text.specs.declared.line.Amount.TheVariants as amount
@@ -9,7 +10,7 @@ use Rattle.command_text.specs.declared.command.Command.TheVariants.{Open, Rewrit
 use Rattle.command_text.specs.declared.path.PathCommand.TheVariants.{Find, Rewrite as Renew, Look, LookRoot, List as Lists, Make, MakeDir, Remove, RemoveDir, Rename}
 use Rattle.command_text.specs.declared.path.Spot.{Spot}
 use Rattle.trace_text.specs.declared.line.Line.{Line}
-use Rattle.trace_text.specs.declared.line.Line.TheVariants.{Version, Term, Drift, Clients, Dir, File, Join, Do, Up, Down, Pass, Settle, Cut, Hang, Forge, Clear, Evict, Warm, Skipped}
+use Rattle.trace_text.specs.declared.line.Line.TheVariants.{Version, Term, Drift, Clients, Dir, File, Join, Do, Up, Down, Pass, RawJoin, Raw, Settle, Cut, Hang, Forge, Clear, Evict, Warm, Skipped}
 use Rattle.trace_text.specs.declared.refusal.Limit.TheVariants.{Lines, Tree, Sessions}
 use Rattle.trace_text.specs.declared.refusal.Limit.TheVariants.{File as OfFile}
 use Rattle.trace_text.specs.declared.refusal.LineFault.TheVariants.{Grammar, Limit, Clock}
@@ -67,6 +68,11 @@ indexes = refl
 -- what a client begins with
 warmings : said (codes "warm 1 t:abc" ∷ codes "warm 18446744073709551615 -" ∷ codes "warm 0 z:5+t:a" ∷ []) ≡ (Some (Warm 1 (Bytes (codes "abc") ∷ [])) ∷ Some (Warm 18446744073709551615 []) ∷ Some (Warm 0 (Zeros 5 ∷ Bytes (codes "a") ∷ [])) ∷ [])
 warmings = refl
+
+-- sessions without a client, and what they send
+strangers : said (codes "rawjoin 0" ∷ codes "rawjoin 9223372036854775807" ∷ codes "raw 1 00" ∷ codes "raw 18446744073709551615 80020001" ∷ codes "raw 0 09afFf" ∷ codes "raw 2 0123456789abcdef" ∷ []) ≡ (Some (RawJoin 0) ∷ Some (RawJoin 9223372036854775807) ∷ Some (Raw 1 (0 ∷ [])) ∷ Some (Raw 18446744073709551615 (128 ∷ 2 ∷ 0 ∷ 1 ∷ [])) ∷ None ∷ Some (Raw 2 (1 ∷ 35 ∷ 69 ∷ 103 ∷ 137 ∷ 171 ∷ 205 ∷ 239 ∷ [])) ∷ [])
+unfolding decode_pairs
+strangers = refl
 
 -- no line of the grammar
 refused : said (codes "terms 1" ∷ codes "Term 1" ∷ codes "term" ∷ codes "term " ∷ codes "term  1" ∷ codes "term 1 " ∷ codes " term 1" ∷ codes "term\t1" ∷ codes "term 1\r" ∷ codes "term 1 1" ∷ []) ≡ replicate 10 None
@@ -127,6 +133,10 @@ refused_evict = refl
 
 refused_warm : said (codes "warm" ∷ codes "warm 1" ∷ codes "warm 1 - -" ∷ codes "warm 01 -" ∷ codes "warm #1 -" ∷ codes "warm server -" ∷ codes "warm  1 -" ∷ codes "Warm 1 -" ∷ codes "warm 1 x:0" ∷ codes "warm 18446744073709551616 -" ∷ []) ≡ replicate 10 None
 refused_warm = refl
+
+refused_strangers : said (codes "rawjoin" ∷ codes "rawjoin " ∷ codes "rawjoin 0 0" ∷ codes "rawjoin 1 0 0" ∷ codes "rawjoin 01" ∷ codes "Rawjoin 0" ∷ codes "rawjoin 9223372036854775808" ∷ codes "raw" ∷ codes "raw 1" ∷ codes "raw 1 " ∷ codes "raw 1 -" ∷ codes "raw 1 0" ∷ codes "raw 1 000" ∷ codes "raw 1 0g" ∷ codes "raw 1 0A" ∷ codes "raw 1 x:00" ∷ codes "raw 1 00 00" ∷ codes "raw  1 00" ∷ codes "raw 01 00" ∷ codes "raw #1 00" ∷ codes "raw 18446744073709551616 00" ∷ codes "Raw 1 00" ∷ []) ≡ replicate 22 None
+unfolding decode_pairs
+refused_strangers = refl
 
 -- a byte above 127 is no letter
 above : line_of (codes "file " ++ (195 ∷ 169 ∷ codes " -")) ≡ None

@@ -3,7 +3,7 @@
 ghost use Rattle.std.specs.Prelude.{◌≡◌, false, None, bytes_eq, codes, MatchOption};
 ghost use Rattle.command_text.specs.Commands.{command_of};
 ghost use Rattle.command_text.specs.Reading.{Gives};
-ghost use Rattle.trace_text.specs.Grammar.{join_of, do_with, do_of, up_of, down_of, pass_of, settle_of, cut_of, hang_of, forge_of, clear_of, evict_of, event_from};
+ghost use Rattle.trace_text.specs.Grammar.{join_of, do_with, do_of, up_of, down_of, pass_of, rawjoin_of, raw_of, settle_of, cut_of, hang_of, forge_of, clear_of, evict_of, event_from};
 
 use crate::fields;
 use crate::line::Line;
@@ -108,6 +108,30 @@ fn pass(words: &mut Words) -> Option<Line>
     }
 }
 
+/// `rawjoin s`.
+fn raw_join(words: &mut Words) -> Option<Line>
+    ensures { result ≡ rawjoin_of words.old }
+{
+    let server = one(words)?;
+    Some(Line::RawJoin {
+        server: fields::reading(server)?,
+    })
+}
+
+/// `raw S HEX`.
+pub(crate) fn raw(alloc: Global, words: &mut Words) -> Result<Line, LineError>
+    ensures { Gives result (raw_of words.old) }
+{
+    let Some((session, digits)) = two(words) else {
+        return Err(LineError::BadLine);
+    };
+    let Some(session) = number(session) else {
+        return Err(LineError::BadLine);
+    };
+    let bytes = fields::bytes(alloc, digits)?;
+    Ok(Line::Raw { session, bytes })
+}
+
 /// `settle s`.
 fn settle(words: &mut Words) -> Option<Line>
     ensures { result ≡ settle_of words.old }
@@ -184,10 +208,11 @@ fn evict(words: &mut Words) -> Option<Line>
     }
 }
 
-/// An event without a content or a command that begins with this word.
+/// An event without a content, bytes or a command that begins with this word.
 pub(crate) fn event(kind: &[u8], words: &mut Words) -> Option<Line>
     requires command { bytes_eq kind.now (codes "do") ≡ false }
     requires warm { bytes_eq kind.now (codes "warm") ≡ false }
+    requires raw { bytes_eq kind.now (codes "raw") ≡ false }
     ensures { result ≡ event_from kind.now words.old }
 {
     if is(kind, b"join") {
@@ -198,6 +223,8 @@ pub(crate) fn event(kind: &[u8], words: &mut Words) -> Option<Line>
         down(words)
     } else if is(kind, b"pass") {
         pass(words)
+    } else if is(kind, b"rawjoin") {
+        raw_join(words)
     } else if is(kind, b"settle") {
         settle(words)
     } else if is(kind, b"cut") {

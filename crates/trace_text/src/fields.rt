@@ -2,12 +2,19 @@
 
 ghost use Rattle.std.specs.Prelude.{◌≡◌, ◌+◌, ◌*◌, ◌≤◌, ◌^◌, true, MatchOption};
 ghost use Rattle.std.specs.List.{list_all};
+ghost use Rattle.std.specs.Result.{result_ok};
+ghost use Rattle.hex.specs.Hex.{decode_of};
 ghost use Rattle.command_text.specs.Fields.{is_lower_digit};
-ghost use Rattle.trace_text.specs.Fields.{lbfs_of, reading_of, amount_of, who_of, digit_of, hex_of, is_key, key_of};
+ghost use Rattle.command_text.specs.Reading.{Gives};
+ghost use Rattle.trace_text.specs.Fields.{lbfs_of, reading_of, amount_of, bytes_of, who_of, digit_of, hex_of, is_key, key_of};
 
 use crate::line::{Amount, LBFS_TRACED, Who};
 use command_text::fields::{number, number_within};
+use command_text::line_error::LineError;
 use command_text::words::is;
+use hex::FromHexError;
+use lb_base::items::{Bytes, Items};
+use std::alloc::Global;
 
 /// The last reading of a clock, in milliseconds.
 const LAST_READING: u64 = limits::READING_MOST;
@@ -62,6 +69,29 @@ fn are_lower_digits(text: &[u8]) -> bool
     true
 }
 
+/// The bytes of pairs of hex digits.
+fn pairs(alloc: Global, digits: &[u8]) -> Result<Bytes, LineError>
+    ensures { Gives result (result_ok (decode_of digits.now)) }
+{
+    match hex::decode(alloc, digits) {
+        Ok(bytes) => Ok(Items::from_vec(bytes)),
+        Err(FromHexError::OutOfMemory) => Err(LineError::Memory),
+        Err(_) => Err(LineError::BadLine),
+    }
+}
+
+/// The bytes that pairs of lower-case hex digits stand for. The crate `hex` takes upper-case digits
+/// too, so they are refused first.
+pub(crate) fn bytes(alloc: Global, word: &[u8]) -> Result<Bytes, LineError>
+    ensures { Gives result (bytes_of word.now) }
+{
+    if !word.is_empty() && are_lower_digits(word) {
+        pairs(alloc, word)
+    } else {
+        Err(LineError::BadLine)
+    }
+}
+
 /// Whether these are the sixteen digits of a key.
 fn is_key(word: &[u8]) -> bool
     ensures { result ≡ is_key word.now }
@@ -92,7 +122,7 @@ fn with_digit(number: u64, digit: u8) -> Option<u64>
 }
 
 /// The number that hex digits stand for, if it has at most 64 bits.
-fn hex(digits: &[u8]) -> Option<u64>
+fn hex_number(digits: &[u8]) -> Option<u64>
     requires { list_all is_lower_digit digits.now ≡ true }
     ensures { result ≡ hex_of digits.now }
 {
@@ -107,5 +137,5 @@ fn hex(digits: &[u8]) -> Option<u64>
 pub(crate) fn key(word: &[u8]) -> Option<u64>
     ensures { result ≡ key_of word.now }
 {
-    if is_key(word) { hex(word) } else { None }
+    if is_key(word) { hex_number(word) } else { None }
 }

@@ -6,7 +6,7 @@ ghost use Rattle.std.specs.Prelude.{◌≡◌, false, bytes_eq, codes};
 ghost use Rattle.command_text.specs.Reading.{Gives};
 ghost use Rattle.trace_text.specs.Grammar.{version_of, term_of, drift_of, clients_of, dir_of, file_of, warm_of, line_from};
 
-use crate::events::{command_line, event};
+use crate::events::{command_line, event, raw};
 use crate::fields::lbfs;
 use crate::line::Line;
 use command_text::line_error::LineError;
@@ -84,12 +84,13 @@ fn warm(alloc: Global, words: &mut Words) -> Result<Line, LineError>
     Ok(Line::Warm { client, content })
 }
 
-/// A line without a path, a content or a command that begins with this word.
+/// A line without a path, a content, bytes or a command that begins with this word.
 fn read_small(kind: &[u8], words: &mut Words) -> Option<Line>
     requires dir { bytes_eq kind.now (codes "dir") ≡ false }
     requires file { bytes_eq kind.now (codes "file") ≡ false }
     requires command { bytes_eq kind.now (codes "do") ≡ false }
     requires warm { bytes_eq kind.now (codes "warm") ≡ false }
+    requires raw { bytes_eq kind.now (codes "raw") ≡ false }
     ensures { result ≡ line_from kind.now words.old }
 {
     if is(kind, b"lbfs-trace") {
@@ -117,6 +118,8 @@ pub(crate) fn read_kind(alloc: Global, kind: &[u8], words: &mut Words) -> Result
         command_line(alloc, words)
     } else if is(kind, b"warm") {
         warm(alloc, words)
+    } else if is(kind, b"raw") {
+        raw(alloc, words)
     } else {
         read_small(kind, words).ok_or(LineError::BadLine)
     }

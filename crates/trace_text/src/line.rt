@@ -11,6 +11,7 @@ use command_text::content::Content;
 use command_text::line_error::LineError;
 use command_text::parts::Words;
 use command_text::path::Spot;
+use lb_base::items::Bytes;
 use std::alloc::Global;
 
 /// There are traces of the versions of LBFS from 1 to this one.
@@ -87,6 +88,15 @@ pub enum Line {
         rounds: u64,
         server: u64,
         at: u64,
+    },
+    /// `rawjoin s`: a session is made that is no client's.
+    RawJoin {
+        server: u64,
+    },
+    /// `raw S HEX`: the session, which is no client's, sends these bytes. No step.
+    Raw {
+        session: u64,
+        bytes: Bytes,
     },
     /// `settle s`: the server makes the change that came first of those that wait.
     Settle {

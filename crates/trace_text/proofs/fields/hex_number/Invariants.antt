@@ -2,7 +2,7 @@ use Rattle.std.proofs.Common.{◌≡◌, ◌<◌, ◌^◌, true, drop}
 use Rattle.std.specs.List.{list_all}
 use Rattle.command_text.specs.Fields.{is_lower_digit}
 use Rattle.trace_text.specs.Fields.{hex_from}
-use Rattle.trace_text.proofs.fields.hex.Given as goal
+use Rattle.trace_text.proofs.fields.hex_number.Given as goal
 
 abbrev pub invariant-loop-digit : goal.invariant-loop-digit
 invariant-loop-digit l = record {
