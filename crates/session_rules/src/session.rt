@@ -2,7 +2,7 @@
 //! what that is.
 
 ghost use Rattle.std.specs.Prelude.{◌≡◌, true};
-ghost use Rattle.session_rules.specs.Session.{new_session};
+ghost use Rattle.session_rules.specs.Session.{new_session, raw_session, is_raw};
 
 use crate::taken_call::TakenCall;
 use std::alloc::Global;
@@ -10,7 +10,7 @@ use std::marker::Model;
 
 /// A session that was made.
 pub struct Session {
-    /// The number of its client.
+    /// The number of its client, 0 where it is none's.
     pub owner: u64,
     /// The calls that the server took since the last operation began that sent some.
     pub taken: Vec<TakenCall>,
@@ -57,6 +57,22 @@ impl Session {
             cut: false,
             hung: false,
         }
+    }
+
+    /// A session that is no client's. It takes no memory.
+    pub fn raw(alloc: Global) -> Session
+        ensures { result ≡ raw_session }
+    {
+        let mut session = Session::new(alloc, 0);
+        session.cut = true;
+        session
+    }
+
+    /// Whether it is no client's.
+    pub fn is_raw(&self) -> bool
+        ensures { result ≡ is_raw self.now }
+    {
+        self.owner == 0
     }
 
     /// Whether the server saw the connection lost.

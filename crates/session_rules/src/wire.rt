@@ -2,14 +2,15 @@
 //! whole. `specs/Wires.antt` says what they are, and `specs/Queue.antt` of `trace_wires` how many bytes a
 //! delivery takes.
 
-ghost use Rattle.std.specs.Prelude.{◌≡◌, [], Some, length, take, drop, IfOk, OnOk};
+ghost use Rattle.std.specs.Prelude.{◌≡◌, ◌++◌, [], Some, length, take, drop, IfOk, OnOk};
 ghost use Rattle.rpc_record.specs.Records.{nothing_read, fed};
 ghost use Rattle.session_rules.specs.Wires.{new_wire, is_still_at};
 ghost use Rattle.trace_wires.specs.Queue.{count_of};
 
-use lb_base::items::Items;
+use lb_base::items::{Bytes, Items};
 use rpc_record::record::Record;
 use rpc_record::records::Records;
+use rpc_record::refusal::Refusal;
 use std::alloc::{AllocError, Global};
 use std::marker::Model;
 use trace_text::line::Amount;
@@ -27,8 +28,8 @@ pub struct Wire {
     client_end: Records,
 }
 
-// Written by hand, it is proved here alone; derived, each crate above would prove how each part is let
-// go.
+// Written by hand, it is proved here alone; derived, each crate above would prove how each part is
+// dropped.
 impl Drop for Wire {
     fn drop(self) {
         let Wire {
@@ -86,6 +87,21 @@ impl Wire {
         ensures rest { OnOk result (self.new ≡ record self.old { down = drop (count_of amount (length self.old.down)) self.old.down; client_end = (fed self.old.client_end (take (count_of amount (length self.old.down)) self.old.down)).0 }) }
     {
         deliver(alloc, &mut self.down, amount, &mut self.client_end)
+    }
+
+    /// Why the server can have no record any more of what comes up, if it can't.
+    pub fn spoilt(&self) -> Option<Refusal>
+        ensures { result ≡ self.now.server_end.spoilt }
+    {
+        self.server_end.spoilt()
+    }
+
+    /// Bytes that are no client's are on their way up, behind those that were. The one error is
+    /// running out of memory.
+    pub fn put_up(&mut self, bytes: Bytes) -> Result<(), AllocError>
+        ensures { OnOk result (self.new ≡ record self.old { up = self.old.up ++ bytes }) }
+    {
+        self.up.put(bytes)
     }
 
     /// The server saw the connection lost: what is on its way up is dropped, and so is what the
