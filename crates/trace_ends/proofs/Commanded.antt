@@ -33,7 +33,7 @@ as_core_step k t = record { core = k; loss = loss_of t.loss; session = t.session
 -- what is left where these are the seats, the sessions and the operations
 abbrev pub left : Core → (first : Seat) → List Seat → List Session → List Op → ClientStep → CoreStep
 left k first seats sessions ops acts = record {
-  core = record { server = k.server; drift = k.drift; lbfs = k.lbfs; seats = seats; sessions = sessions; steps = k.steps + 1; ops = ops; entries = k.entries };
+  core = record { server = k.server; drift = k.drift; lbfs = k.lbfs; seats = seats; sessions = sessions; steps = k.steps + 1; ops = ops; entries = k.entries; came = k.came; raws = k.raws };
   loss = Nothing;
   session = first.session;
   up = acts.send;
@@ -119,9 +119,9 @@ pub left_is : (k : Core) (seat : Seat) (seats : List Seat) (sessions : List Sess
     → t ≡ record { loss = lost.Nothing; session = session; up = acts.send; down = [] }
     → step ≡ k.steps + 1
     → session ≡ seat.session
-    → as_core_step (record { server = k.server; drift = k.drift; lbfs = k.lbfs; seats = seats; sessions = sessions; steps = step; ops = ops; entries = k.entries }) t ≡ left k seat seats sessions ops acts
+    → as_core_step (record { server = k.server; drift = k.drift; lbfs = k.lbfs; seats = seats; sessions = sessions; steps = step; ops = ops; entries = k.entries; came = k.came; raws = k.raws }) t ≡ left k seat seats sessions ops acts
 left_is k seat seats sessions ops acts step session t e n s =
-    let core : ℕ → Core = λ m. record { server = k.server; drift = k.drift; lbfs = k.lbfs; seats = seats; sessions = sessions; steps = m; ops = ops; entries = k.entries } in
+    let core : ℕ → Core = λ m. record { server = k.server; drift = k.drift; lbfs = k.lbfs; seats = seats; sessions = sessions; steps = m; ops = ops; entries = k.entries; came = k.came; raws = k.raws } in
     ap (as_core_step (core step)) e
     ∙ ap (λ (m : ℕ). as_core_step (core m) (record { loss = lost.Nothing; session = session; up = acts.send; down = [] })) n
     ∙ ap (λ (o : Option ℕ). as_core_step (core (k.steps + 1)) (record { loss = lost.Nothing; session = o; up = acts.send; down = [] })) s

@@ -1,3 +1,4 @@
 mod Commanded
+mod Contents
 mod Served
 mod Ways

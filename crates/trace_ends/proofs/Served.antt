@@ -1,24 +1,42 @@
--- A record that the server takes, from what its message came to.
-use Rattle.std.proofs.Common.{◌≡◌, ℕ, zero, suc, ◌<◌, List, [], ◌∷◌, length, Option, Some, arith, refl, sym, ap, subst, ◌∙◌}
+-- A record that the server takes, from what its message came to, and a connection that it sees lost.
+use Rattle.std.proofs.Common.{◌≡◌, ℕ, zero, suc, ◌+◌, ◌<◌, List, length, Option, Some, false, arith, refl, sym, ap, subst, ◌∙◌, slice_index_or}
 use Rattle.std.specs.Prelude.{slice_get, Result, Ok, Err, IfOk, IfSome}
+use Rattle.std.proofs.lemmas.Option.{slice_get_read}
 use Rattle.wire.specs.Parse.{parse_of}
 use Rattle.wire.specs.declared.message.Message.{Message}
-use Rattle.trace_ends.specs.Core.{Core, CoreStep, server_waits, server_got, serves_if, serves}
+use Rattle.wire.specs.declared.fault.WireFault.{WireFault}
+use Rattle.trace_ends.specs.Core.{Core, CoreStep, server_waits, serves_if, serves_unless, serves, loses, hangs_if, hangs}
 use Rattle.trace_ends.specs.Session.{Session}
+use Rattle.trace_ends.specs.Numbers.{numbered}
 
-found : {A : Type 0} (xs : List A) (i : ℕ) → i < length xs → (x : A) × (slice_get xs i ≡ Some x)
-found [] i lt = absurd (omega (arith, lt))
-found (x ∷ xs) zero lt = (x, refl)
-found (x ∷ xs) (suc i) lt = found xs i (omega (arith, lt))
-
-pub serves_is : {T E : Type 0} (k : Core) (place number now : ℕ) (bytes : List ℕ) (m : Message) (r : Result T E) (left : T → CoreStep)
+pub serves_is : {T E : Type 0} (k : Core) (place number now : ℕ) (bytes : List ℕ) (x : Session) (p : Result Message WireFault) (r : Result T E) (left : T → CoreStep)
     → place < length k.sessions
-    → parse_of (server_waits k number) bytes ≡ Ok m
-    → IfOk r (λ t. IfSome (slice_get k.sessions place) (λ x. left t ≡ server_got k number now x m))
+    → x ≡ slice_index_or k.sessions place x
+    → x.hung ≡ false
+    → parse_of (server_waits k number) bytes ≡ p
+    → IfOk r (λ t. IfSome (slice_get k.sessions place) (λ y. left t ≡ serves_if k number now y p))
     → IfOk r (λ t. left t ≡ serves k number now bytes (slice_get k.sessions place))
-serves_is k place number now bytes m (Err e) left lt parsed told = tt
-serves_is k place number now bytes m (Ok t) left lt parsed told =
-    let at = found k.sessions place lt in
-    subst (λ (o : Option Session). IfSome o (λ x. left t ≡ server_got k number now x m)) at.1 told
-    ∙ ap (serves_if k number now at.0) (sym parsed)
-    ∙ ap (serves k number now bytes) (sym at.1)
+serves_is k place number now bytes x p (Err e) left lt is stands parsed told = tt
+serves_is k place number now bytes x p (Ok t) left lt is stands parsed told =
+    let at = slice_get_read k.sessions (length k.sessions) place x refl lt is in
+    subst (λ (o : Option Session). IfSome o (λ y. left t ≡ serves_if k number now y p)) at told
+    ∙ ap (serves_if k number now x) (sym parsed)
+    ∙ ap (serves_unless k number now bytes x) (sym stands)
+    ∙ ap (serves k number now bytes) (sym at)
+
+pub hangs_is : {T E : Type 0} (k : Core) (place number : ℕ) (x : Session) (r : Result T E) (left : T → CoreStep)
+    → number ≡ place + 1
+    → place < length k.sessions
+    → x ≡ slice_index_or k.sessions place x
+    → x.hung ≡ false
+    → IfOk r (λ t. IfSome (slice_get k.sessions place) (λ y. left t ≡ loses k (place + 1) y))
+    → IfOk r (λ t. left t ≡ hangs k number (numbered k.sessions number))
+hangs_is k place number x (Err e) left next lt is stands told = tt
+hangs_is k place zero x (Ok t) left next lt is stands told = absurd (omega (arith, next))
+hangs_is k place (suc n) x (Ok t) left next lt is stands told =
+    let at = slice_get_read k.sessions (length k.sessions) place x refl lt is in
+    let same : place ≡ n = omega (arith, next) in
+    subst (λ (o : Option Session). IfSome o (λ y. left t ≡ loses k (place + 1) y)) at told
+    ∙ ap (λ (m : ℕ). loses k m x) (sym next)
+    ∙ ap (hangs_if k (suc n) x) (sym stands)
+    ∙ ap (hangs k (suc n)) (sym at ∙ ap (slice_get k.sessions) same)

@@ -5,6 +5,7 @@ use Rattle.std.specs.Option.{option_map}
 use Rattle.wire.specs.Parse.{parse_of}
 use Rattle.wire.specs.declared.message.Message.{Message}
 use Rattle.wire.specs.declared.fault.WireFault.{WireFault}
+use Rattle.wire.specs.declared.fault.WireFault.TheVariants as fault
 use Rattle.wire.specs.declared.message.Side.TheVariants as side
 use Rattle.wire.specs.declared.message.Waiting.{Waiting}
 use Rattle.command_text.specs.Content.{content_bytes}
@@ -13,6 +14,7 @@ use Rattle.tree_reading.specs.declared.entry.EntryKind.{EntryKind}
 use Rattle.tree_reading.specs.declared.entry.EntryKind.TheVariants as kind
 use Rattle.callback_core.specs.BackCalls.{waiting_at}
 use Rattle.server_core.specs.State as server
+use Rattle.server_core.specs.Closing.{has_waiting}
 use Rattle.server_core.specs.Step.{server_step, forges, clears_index}
 use Rattle.server_core.specs.declared.event.Event.TheVariants as event
 use Rattle.server_core.specs.declared.event.Sent.{Sent}
@@ -27,6 +29,11 @@ use Rattle.client_state.specs.Ending.{joined, cut}
 use Rattle.client_state.specs.declared.step.ClientStep.{ClientStep}
 use Rattle.register_model.specs.declared.op.Op.{Op}
 use Rattle.register_model.specs.declared.op.Word.{Word}
+use Rattle.register_model.specs.declared.raw.Raw.{Raw}
+use Rattle.register_model.specs.declared.raw.RawKind.{RawKind}
+use Rattle.register_model.specs.declared.raw.RawKind.TheVariants as raw
+use Rattle.chunk_calls.specs.Files.{File, file_at}
+use Rattle.tree_reading.specs.Tree.{Tree}
 use Rattle.trace_text.specs.declared.line.Who.TheVariants as who
 use Rattle.trace_ends.specs.declared.adjusting.Adjustment.{Adjustment}
 use Rattle.trace_ends.specs.declared.adjusting.Adjustment.TheVariants as adjustment
@@ -34,7 +41,7 @@ use Rattle.trace_ends.specs.declared.adjusting.CacheChange.{CacheChange}
 use Rattle.trace_ends.specs.declared.adjusting.CacheChange.TheVariants as changing
 use Rattle.trace_ends.specs.Commands.{word_of, file_of, value_at_begin}
 use Rattle.trace_ends.specs.Ops.{begun, op_after, place_after, place_with, pointed_at, ops_with}
-use Rattle.trace_ends.specs.Session.{Seat, Session, commanded_session, is_newest, new_session, session_of, settled_ops, taken_of, taken_with}
+use Rattle.trace_ends.specs.Session.{Seat, Session, commanded_session, is_newest, is_raw, new_session, raw_session, session_of, settled_ops, taken_of, taken_with}
 use Rattle.trace_ends.specs.Numbers.{numbered, with_numbered}
 use Rattle.wire.specs.declared.message.TheConstants.{LBFS_SERVED}
 
@@ -55,10 +62,14 @@ pub record Core : Type 0 where
   pub ops : List Op
   -- the step of each change in the server's journal
   pub entries : List ℕ
+  -- of each session the step in which the server took the last message of it while no change of it waited: by that the change came which now does
+  pub came : List ℕ
+  -- the changes of files that sessions made which are no client's
+  pub raws : List Raw
 
 -- ---- what happens
 
--- one step of an end, or two where a client joins. What is delivered is a record.
+-- One step of an end, or two where a client joins, or none where there is nothing to do. What is delivered is a record.
 pub data Event : Type 0 where
   Joins : (client : ℕ) → Event
   Does : (client now : ℕ) → Command → Event
@@ -67,6 +78,8 @@ pub data Event : Type 0 where
   Settles : (now : ℕ) → Event
   Cuts : (client : ℕ) → Event
   Hangs : (session : ℕ) → Event
+  -- a session is made that is no client's
+  RawJoins : Event
 
 -- what becomes of the bytes on their way, before more are sent: a session is made, or those on their way down or up a session are dropped
 pub data Loss : Type 0 where
@@ -101,9 +114,43 @@ abbrev pub is_of_file : EntryKind → Bool
 is_of_file kind.Name = false
 is_of_file k = true
 
--- the first file whose content these entries are about
+-- the first of these entries that is about a file's content, and that file
+abbrev pub changed_entry : List Entry → Option Entry
+changed_entry es = find (λ e. is_of_file e.kind) es
+
 abbrev pub changed_file : List Entry → Option ℕ
-changed_file es = option_map (λ e. e.file) (find (λ e. is_of_file e.kind) es)
+changed_file es = option_map (λ e. e.file) (changed_entry es)
+
+-- ---- changes by sessions that are no client's
+
+-- the content of a file of the tree, no bytes where it is gone
+abbrev pub content_in : Option File → List ℕ
+content_in None = []
+content_in (Some f) = f.content
+
+-- a change that an entry of the journal tells, and what it left in the tree
+abbrev pub raw_of : (begin step : ℕ) → Tree → Entry → RawKind → Raw
+raw_of begin step t e kind = record { session = e.session; kind = kind; file = e.file; begin = begin; point = step; version = e.version; len = e.len; sha1 = e.sha1; value = content_in (file_at t e.file) }
+
+-- what was done to a file, where an entry of this kind is of one
+abbrev pub raw_kind : EntryKind → Option RawKind
+raw_kind kind.Make = Some raw.Make
+raw_kind kind.Commit = Some raw.Commit
+raw_kind kind.Remove = Some raw.Remove
+raw_kind kind.Name = None
+
+abbrev pub raw_by : (begin step : ℕ) → Tree → Entry → Option RawKind → List Raw
+raw_by begin step t e None = []
+raw_by begin step t e (Some k) = raw_of begin step t e k ∷ []
+
+abbrev pub raw_in : (begin step : ℕ) → Tree → Option Entry → List Raw
+raw_in begin step t None = []
+raw_in begin step t (Some e) = raw_by begin step t e (raw_kind e.kind)
+
+-- one more such change, where the session by which it was made is no client's
+abbrev pub raws_with : List Raw → (is_raw : Bool) → (begin step : ℕ) → Tree → Option Entry → List Raw
+raws_with raws true begin step t e = raws ++ raw_in begin step t e
+raws_with raws false begin step t e = raws
 
 -- ---- the server's end
 
@@ -114,6 +161,11 @@ server_waiting = record { side = side.Server; lbfs = LBFS_SERVED; calls = [] }
 -- what the server waits for on a session: answers to RECALLs
 abbrev pub server_waits : Core → (number : ℕ) → Waiting
 server_waits k number = waiting_at k.server.leasing.calls number
+
+-- a message is taken in this step, where a change of its session waits or not
+abbrev pub came_with : List ℕ → (waits : Bool) → (number step : ℕ) → List ℕ
+came_with came true number step = came
+came_with came false number step = with_numbered came number step
 
 -- A session's message is taken by the server, at a reading of its clock. A change that doesn't wait is made at once, and is that of the session's last
 -- operation that may change a file.
@@ -126,16 +178,35 @@ server_got k number now x m =
       sessions = with_numbered k.sessions number (record x { taken = taken_with x.taken m (k.steps + 1) });
       ops = pointed_at k.ops x.closing (k.steps + 1) (changed_file (newest_entries r.0.journal r.1.entries));
       entries = k.entries ++ replicate r.1.entries (k.steps + 1);
+      came = came_with k.came (has_waiting k.server.waiting number) number (k.steps + 1);
+      raws = raws_with k.raws (is_raw x) (k.steps + 1) (k.steps + 1) r.0.tree (changed_entry (newest_entries r.0.journal r.1.entries));
     })) { down = r.1.send }
 
--- bytes that are no message change nothing at the server
+-- the server sees the connection of a session lost, which it didn't before, or closes it: what is on its way up is dropped
+abbrev pub loses : Core → (number : ℕ) → Session → CoreStep
+loses k number x = record (quiet (record k {
+  steps = k.steps + 1;
+  server = (server_step k.server (event.Hang number)).0;
+  sessions = with_numbered k.sessions number (record x { hung = true });
+})) { loss = Up_of number }
+
+-- Bytes that are no message close their session, but for an answer to a call that doesn't wait, which changes nothing.
+abbrev pub serves_none : Core → (number : ℕ) → Session → WireFault → CoreStep
+serves_none k number x (fault.UnknownXid xid) = idles k
+serves_none k number x e = loses k number x
+
 abbrev pub serves_if : Core → (number now : ℕ) → Session → Result Message WireFault → CoreStep
 serves_if k number now x (Ok m) = server_got k number now x m
-serves_if k number now x (Err e) = idles k
+serves_if k number now x (Err e) = serves_none k number x e
+
+-- what comes on a session that the server has seen lost, or closed, is heard by nobody
+abbrev pub serves_unless : Core → (number now : ℕ) → List ℕ → Session → (hung : Bool) → CoreStep
+serves_unless k number now bytes x true = quiet k
+serves_unless k number now bytes x false = serves_if k number now x (parse_of (server_waits k number) bytes)
 
 abbrev pub serves : Core → (number now : ℕ) → List ℕ → Option Session → CoreStep
 serves k number now bytes None = quiet k
-serves k number now bytes (Some x) = serves_if k number now x (parse_of (server_waits k number) bytes)
+serves k number now bytes (Some x) = serves_unless k number now bytes x x.hung
 
 -- ---- the client's end
 
@@ -209,6 +280,7 @@ joins_as k number seat s (told.Session made) = record (quiet (record k {
   server = s;
   seats = with_numbered k.seats number (record seat { client = joined seat.client; session = Some made });
   sessions = k.sessions ++ new_session number ∷ [];
+  came = k.came ++ 0 ∷ [];
 })) { loss = Made }
 joins_as k number seat s _ = quiet (record k { steps = k.steps + 2; server = s })
 
@@ -216,11 +288,28 @@ abbrev pub joins : Core → (number : ℕ) → Option Seat → CoreStep
 joins k number None = quiet k
 joins k number (Some seat) = let r = server_step k.server event.Connect in joins_as k number seat r.0 r.1.told
 
+-- A session is made that is no client's: a step of the server. Where it makes none, the step does nothing.
+abbrev pub raw_joins_as : Core → server.State → Told → CoreStep
+raw_joins_as k s (told.Session made) = record (quiet (record k { steps = k.steps + 1; server = s; sessions = k.sessions ++ raw_session ∷ []; came = k.came ++ 0 ∷ [] })) { loss = Made }
+raw_joins_as k s _ = idles (record k { server = s })
+
+abbrev pub raw_joins : Core → CoreStep
+raw_joins k = let r = server_step k.server event.Connect in raw_joins_as k r.0 r.1.told
+
 -- ---- a pending change is made
 
 abbrev pub settled_by : Core → (changed : Option ℕ) → Told → List Op
 settled_by k changed (told.Settled session xid) = settled_ops k.ops (k.steps + 1) changed (numbered k.sessions session)
 settled_by k changed _ = k.ops
+
+-- one by a session that is no client's began as its message came
+abbrev pub raws_on : List Raw → (came : Option ℕ) → (step : ℕ) → Tree → Option Entry → Option Session → List Raw
+raws_on raws (Some came) step t e (Some x) = raws_with raws (is_raw x) came step t e
+raws_on raws came step t e x = raws
+
+abbrev pub raws_by : Core → Tree → Option Entry → Told → List Raw
+raws_by k t e (told.Settled session xid) = raws_on k.raws (numbered k.came session) (k.steps + 1) t e (numbered k.sessions session)
+raws_by k t e _ = k.raws
 
 abbrev pub settles : Core → (now : ℕ) → CoreStep
 settles k now =
@@ -230,6 +319,7 @@ settles k now =
       server = r.0;
       ops = settled_by k (changed_file (newest_entries r.0.journal r.1.entries)) r.1.told;
       entries = k.entries ++ replicate r.1.entries (k.steps + 1);
+      raws = raws_by k r.0.tree (changed_entry (newest_entries r.0.journal r.1.entries)) r.1.told;
     })) { down = r.1.send }
 
 -- ---- a connection is lost
@@ -257,11 +347,7 @@ cuts k number (Some seat) = cuts_if k number seat seat.client.linked
 -- The server sees it, once: what is on its way up is dropped.
 abbrev pub hangs_if : Core → (number : ℕ) → Session → (hung : Bool) → CoreStep
 hangs_if k number x true = quiet k
-hangs_if k number x false = record (quiet (record k {
-  steps = k.steps + 1;
-  server = (server_step k.server (event.Hang number)).0;
-  sessions = with_numbered k.sessions number (record x { hung = true });
-})) { loss = Up_of number }
+hangs_if k number x false = loses k number x
 
 abbrev pub hangs : Core → (number : ℕ) → Option Session → CoreStep
 hangs k number None = quiet k
@@ -277,6 +363,7 @@ happens k (Hears number now bytes) = hears k number now bytes (numbered k.sessio
 happens k (Settles now) = settles k now
 happens k (Cuts number) = cuts k number (numbered k.seats number)
 happens k (Hangs number) = hangs k number (numbered k.sessions number)
+happens k RawJoins = raw_joins k
 
 -- ---- an index or a cache alone
 

@@ -8,7 +8,7 @@ use Rattle.register_model.specs.declared.op.Word.{Word}
 use Rattle.session_rules.specs.declared.taken_call.TakenCall.{TakenCall}
 use Rattle.trace_ends.specs.Ops.{taken_on, closing_with}
 use Rattle.trace_ends.specs.Numbers.{numbered}
-pub use Rattle.session_rules.specs.Session.{Session, new_session}
+pub use Rattle.session_rules.specs.Session.{Session, new_session, raw_session, is_raw}
 pub use Rattle.session_rules.specs.Points.{settled_ops}
 
 -- ---- what they are

@@ -6,7 +6,7 @@ use Rattle.trace_ends.specs.declared.core_step.CoreStep.{CoreStep as Left}
 use Rattle.trace_ends.specs.Core.{Core, Loss, Loss.Nothing, Loss.Made, Loss.Down_of, Loss.Up_of, CoreStep}
 
 abbrev pub core_of : Fields → Core
-core_of k = record { server = k.server; drift = k.drift; lbfs = k.lbfs; seats = k.seats.items; sessions = k.sessions.items; steps = k.steps; ops = k.ops.items; entries = k.entries.items }
+core_of k = record { server = k.server; drift = k.drift; lbfs = k.lbfs; seats = k.seats.items; sessions = k.sessions.items; steps = k.steps; ops = k.ops.items; entries = k.entries.items; came = k.came.items; raws = k.raws.items }
 
 abbrev pub loss_of : Lost → Loss
 loss_of lost.Nothing = Nothing

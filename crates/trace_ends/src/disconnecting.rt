@@ -1,10 +1,10 @@
 //! A connection is lost, at either end. `cuts` and `hangs` in `specs/Core.antt` say what that makes of
 //! the two ends.
 
-ghost use Rattle.std.specs.Prelude.{◌≡◌, ◌+◌, ◌<◌, length, slice_get, IfOk, OnOk};
+ghost use Rattle.std.specs.Prelude.{◌≡◌, ◌+◌, ◌<◌, length, slice_get, IfOk, IfSome, OnOk};
 ghost use Rattle.server_core.specs.Step.{server_step};
 ghost use Rattle.server_core.specs.declared.event.Event.TheVariants as event;
-ghost use Rattle.trace_ends.specs.Core.{loss_down, cut_session, cuts, happens, Event.Cuts, Event.Hangs};
+ghost use Rattle.trace_ends.specs.Core.{loss_down, loses, cut_session, cuts, happens, Event.Cuts, Event.Hangs};
 ghost use Rattle.trace_ends.specs.Session.{session_of};
 ghost use Rattle.trace_ends.specs.View.{core_of, loss_of, core_step_of};
 
@@ -83,6 +83,18 @@ fn hang(alloc: Global, server: &mut Server, session: u32) -> Result<(), AllocErr
     Ok(())
 }
 
+/// The server sees the connection of the session at this place lost, which it didn't before, or closes it.
+pub(crate) fn loses(alloc: Global, core: &mut Core, place: usize) -> Result<CoreStep, AllocError>
+    requires { place < length core.old.sessions.items }
+    ensures { IfOk result (λ t. IfSome (slice_get core.old.sessions.items place) (λ x. core_step_of core.new t ≡ loses (core_of core.old) (place + 1) x)) }
+{
+    let number = short_number(place as u64 + 1)?;
+    core.steps = count_on(core.steps, 1)?;
+    hang(alloc, &mut core.server, number)?;
+    core.sessions[place].hang();
+    Ok(CoreStep::losing(alloc, Loss::UpOf(number)))
+}
+
 impl Core {
     /// A client sees its connection lost, if there is one of this number.
     pub fn cuts(&mut self, alloc: Global, client: u64) -> Result<CoreStep, AllocError>
@@ -105,10 +117,6 @@ impl Core {
         if self.sessions[place].is_hung() {
             return Ok(CoreStep::quiet(alloc));
         }
-        let number = short_number(session)?;
-        self.steps = count_on(self.steps, 1)?;
-        hang(alloc, &mut self.server, number)?;
-        self.sessions[place].hang();
-        Ok(CoreStep::losing(alloc, Loss::UpOf(number)))
+        loses(alloc, self, place)
     }
 }

@@ -3,7 +3,8 @@
 //! which they are.
 
 ghost use Rattle.std.specs.Prelude.{◌≡◌, ◌++◌, drop, replicate, OnOk};
-ghost use Rattle.trace_ends.specs.Core.{is_of_file, newest_entries, changed_file};
+ghost use Rattle.std.specs.Option.{option_copied};
+ghost use Rattle.trace_ends.specs.Core.{is_of_file, newest_entries, changed_entry, changed_file};
 
 use server_core::journal::Entry;
 use std::alloc::AllocError;
@@ -16,13 +17,13 @@ fn is_of_file(kind: EntryKind) -> bool
     !matches!(kind, EntryKind::Name)
 }
 
-/// The file of the first entry that is about a file's content.
-fn changed_file(entries: &[Entry]) -> Option<u64>
-    ensures { result ≡ changed_file entries.now }
+/// The first entry that is about a file's content.
+fn changed_entry(entries: &[Entry]) -> Option<&Entry>
+    ensures { option_copied result ≡ changed_entry entries.now }
 {
     for entry in entries {
         if is_of_file(entry.kind) {
-            return Some(entry.file);
+            return Some(entry);
         }
     }
     None
@@ -46,11 +47,21 @@ fn newest_entries(entries: &[Entry], made: u32) -> &[Entry]
     entries_from(entries, entries.len().saturating_sub(made as usize))
 }
 
+/// The first of the last `made` entries that is about a file's content.
+pub fn entry_by(entries: &[Entry], made: u32) -> Option<&Entry>
+    ensures { option_copied result ≡ changed_entry (newest_entries entries.now made) }
+{
+    changed_entry(newest_entries(entries, made))
+}
+
 /// The first file whose content the last `made` entries are about.
 pub fn changed_by(entries: &[Entry], made: u32) -> Option<u64>
     ensures { result ≡ changed_file (newest_entries entries.now made) }
 {
-    changed_file(newest_entries(entries, made))
+    match entry_by(entries, made) {
+        Some(entry) => Some(entry.file),
+        None => None,
+    }
 }
 
 /// Adds the step of each change that was made.

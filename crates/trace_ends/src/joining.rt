@@ -4,7 +4,7 @@ ghost use Rattle.std.specs.Prelude.{◌≡◌, IfOk, OnOk};
 ghost use Rattle.server_core.specs.Step.{server_step};
 ghost use Rattle.server_core.specs.declared.event.Event.TheVariants as event;
 ghost use Rattle.server_rules.specs.declared.told.Told.TheVariants as told;
-ghost use Rattle.trace_ends.specs.Core.{happens, Event.Joins};
+ghost use Rattle.trace_ends.specs.Core.{happens, Event.Joins, Event.RawJoins};
 ghost use Rattle.trace_ends.specs.View.{core_of, core_step_of};
 
 use crate::core_step::{CoreStep, Loss};
@@ -47,6 +47,23 @@ impl Core {
                 self.seats[place].joins(alloc, made);
                 let session = Session::new(alloc, client);
                 self.sessions.push(session)?;
+                self.came.push(0)?;
+                Ok(CoreStep::losing(alloc, Loss::Made))
+            }
+            _ => Ok(CoreStep::quiet(alloc)),
+        }
+    }
+
+    /// A session is made that is no client's: a step of the server.
+    pub fn raw_joins(&mut self, alloc: Global) -> Result<CoreStep, AllocError>
+        ensures { IfOk result (λ t. core_step_of self.new t ≡ happens (core_of self.old) RawJoins) }
+    {
+        self.steps = count_on(self.steps, 1)?;
+        match connect(alloc, &mut self.server)? {
+            Told::Session(_) => {
+                let session = Session::raw(alloc);
+                self.sessions.push(session)?;
+                self.came.push(0)?;
                 Ok(CoreStep::losing(alloc, Loss::Made))
             }
             _ => Ok(CoreStep::quiet(alloc)),

@@ -18,6 +18,7 @@ mod joining;
 pub mod ops;
 mod outbox;
 pub mod places;
+mod raw_changes;
 pub mod seat;
 pub mod sending;
 mod serving;

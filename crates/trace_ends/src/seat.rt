@@ -127,7 +127,12 @@ impl Seat {
     /// A record comes to the client.
     pub fn hears(&mut self, alloc: Global, bytes: &[u8], now: u64) -> Result<ClientStep, AllocError>
         ensures acts { IfOk result (λ acts. (got_step self.old.client (parse_of (waiting_of self.old.client) bytes.now) now).1 ≡ acts) }
-        ensures seat { IfOk result (λ acts. self.new ≡ record self.old { client = (got_step self.old.client (parse_of (waiting_of self.old.client) bytes.now) now).0; place = place_after self.old.place acts.ended }) }
+        ensures seat { IfOk result (λ acts.
+            self.new ≡ record self.old {
+              client =
+                  (got_step self.old.client (parse_of (waiting_of self.old.client) bytes.now) now).0;
+              place = place_after self.old.place acts.ended;
+            }) }
     {
         let said = message_of(alloc, bytes, self.client.waiting())?;
         let acts = self.client.got(alloc, said, now);

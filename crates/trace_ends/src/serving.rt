@@ -1,43 +1,87 @@
 //! A record comes to the server. `serves` in `specs/Core.antt` says what that makes of the two ends.
 
 ghost use Rattle.std.specs.Prelude.{◌≡◌, ◌+◌, ◌<◌, ◌^◌, ◌++◌, length, replicate, slice_get, slice_set, IfOk, IfSome, OnOk};
-ghost use Rattle.trace_ends.specs.Core.{changed_file, newest_entries, server_got, serves, happens, Event.Serves};
+ghost use Rattle.trace_ends.specs.Core.{came_with, changed_entry, changed_file, newest_entries, raws_with, server_got, serves_none, serves, happens, Event.Serves};
 ghost use Rattle.trace_ends.specs.Ops.{pointed_at};
-ghost use Rattle.trace_ends.specs.Session.{taken_with};
+ghost use Rattle.trace_ends.specs.Session.{is_raw, taken_with};
 ghost use Rattle.trace_ends.specs.View.{core_of, core_step_of};
 
 use crate::core_step::CoreStep;
+use crate::disconnecting::loses;
 use crate::entering::{changed_by, enter};
+use crate::raw_changes::put_raw;
 use crate::session::{remember, short_number};
 use crate::world_core::{Core, count_on};
 use server_core::event::{Event, let_go, let_go_step};
 use session_rules::numbers::place_of;
 use session_rules::pointing::point_at;
 use std::alloc::{AllocError, Global};
+use wire::fault::WireFault;
 use wire::message::Message;
 use wire::parse::message_of;
 
-/// Counts the step in which a message of the session at this place is taken, and remembers it.
-fn note(core: &mut Core, place: usize, message: &Message) -> Result<(), AllocError>
+/// The step in which a message of the session at this place is taken, where no change of it waits.
+fn note_step(came: &mut Vec<u64>, place: usize, waits: bool, step: u64)
+    ensures { came.new.items ≡ came_with came.old.items waits (place + 1) step }
+{
+    if waits {
+        return;
+    }
+    if place < came.len() {
+        came[place] = step;
+    }
+}
+
+/// Counts the step in which a message of the session at this place is taken, and remembers it. A change
+/// of the session waits or doesn't.
+fn note(core: &mut Core, place: usize, waits: bool, message: &Message) -> Result<(), AllocError>
     requires { place < length core.old.sessions.items }
-    ensures { OnOk result (IfSome (slice_get core.old.sessions.items place) (λ x. core_of core.new ≡ record (core_of core.old) { steps = core.old.steps + 1; sessions = slice_set core.old.sessions.items place (record x { taken = taken_with x.taken message.now (core.old.steps + 1) }) })) }
+    ensures { OnOk result (IfSome (slice_get core.old.sessions.items place)
+        (λ x. core_of core.new
+        ≡ record (core_of core.old) {
+          steps = core.old.steps + 1;
+          sessions = slice_set core.old.sessions.items place
+              (record x { taken = taken_with x.taken message.now (core.old.steps + 1) });
+          came = came_with core.old.came.items waits (place + 1) (core.old.steps + 1);
+        })) }
 {
     let step = count_on(core.steps, 1)?;
     remember(&mut core.sessions[place], message, step)?;
+    note_step(&mut core.came, place, waits, step);
     core.steps = step;
     Ok(())
 }
 
 /// The operation of this session that changed a file has its point at this step, and the last `made`
-/// entries of the journal have this step.
-fn enter_at(core: &mut Core, place: usize, made: u32) -> Result<(), AllocError>
+/// entries of the journal have this step. Where the session is no client's, the change is its own.
+fn enter_at(alloc: Global, core: &mut Core, place: usize, made: u32) -> Result<(), AllocError>
     requires { place < length core.old.sessions.items }
-    ensures { OnOk result (IfSome (slice_get core.old.sessions.items place) (λ x. core_of core.new ≡ record (core_of core.old) { ops = pointed_at core.old.ops.items x.closing core.old.steps (changed_file (newest_entries core.old.server.journal made)); entries = core.old.entries.items ++ replicate made core.old.steps })) }
+    ensures { OnOk result (IfSome (slice_get core.old.sessions.items place)
+        (λ x. core_of core.new
+        ≡ record
+        (core_of core.old) {
+          ops = pointed_at core.old.ops.items x.closing core.old.steps
+              (changed_file (newest_entries core.old.server.journal made));
+          entries = core.old.entries.items ++ replicate made core.old.steps;
+          raws = raws_with core.old.raws.items
+              (is_raw x) core.old.steps core.old.steps core.old.server.tree
+              (changed_entry (newest_entries core.old.server.journal made));
+        })) }
 {
     let changed = changed_by(core.server.journal(), made);
-    let closing = core.sessions[place].closing;
-    point_at(&mut core.ops, closing, core.steps, changed);
-    enter(&mut core.entries, made, core.steps)
+    let (step, own) = (core.steps, &core.sessions[place]);
+    point_at(&mut core.ops, own.closing, step, changed);
+    let is_raw = own.is_raw();
+    put_raw(
+        alloc,
+        &mut core.raws,
+        &core.server,
+        is_raw,
+        made,
+        step,
+        step,
+    )?;
+    enter(&mut core.entries, made, step)
 }
 
 /// The server takes a message of the session at this place, at this reading of its clock.
@@ -59,7 +103,8 @@ fn got(
             return Err(error);
         }
     };
-    match note(core, place, &message) {
+    let waits = core.server.has_waiting(session);
+    match note(core, place, waits, &message) {
         Ok(()) => (),
         Err(error) => {
             let_go(message);
@@ -76,7 +121,7 @@ fn got(
         let_go_step(step);
         return Err(AllocError);
     }
-    match enter_at(core, place, step.entries) {
+    match enter_at(alloc, core, place, step.entries) {
         Ok(()) => Ok(CoreStep::served(alloc, step)),
         Err(error) => {
             let_go_step(step);
@@ -85,8 +130,28 @@ fn got(
     }
 }
 
-/// The server takes a record of the session at this place, at this reading of its clock. Bytes that
-/// are no message change nothing but the count of steps.
+/// Bytes of the session at this place are no message: that closes it, but for an answer to a call that
+/// doesn't wait, which changes nothing but the count of steps.
+fn serves_none(
+    alloc: Global,
+    core: &mut Core,
+    place: usize,
+    fault: WireFault,
+) -> Result<CoreStep, AllocError>
+    requires { place < length core.old.sessions.items }
+    ensures { IfOk result (λ t. IfSome (slice_get core.old.sessions.items place) (λ x. core_step_of core.new t ≡ serves_none (core_of core.old) (place + 1) x fault)) }
+{
+    match fault {
+        WireFault::UnknownXid { .. } => {
+            core.steps = count_on(core.steps, 1)?;
+            Ok(CoreStep::quiet(alloc))
+        }
+        WireFault::NotRpc { .. } | WireFault::Garbage { .. } => loses(alloc, core, place),
+    }
+}
+
+/// The server takes a record of the session at this place, at this reading of its clock, unless it has
+/// seen the session lost.
 fn serves_at(
     alloc: Global,
     core: &mut Core,
@@ -98,14 +163,14 @@ fn serves_at(
     requires now { now < 2 ^ 63 }
     ensures { IfOk result (λ t. core_step_of core.new t ≡ serves (core_of core.old) (place + 1) now bytes.now (slice_get core.old.sessions.items place)) }
 {
+    if core.sessions[place].is_hung() {
+        return Ok(CoreStep::quiet(alloc));
+    }
     let session = short_number(place as u64 + 1)?;
     let said = message_of(alloc, bytes, core.server.waiting(session))?;
     match said {
         Ok(message) => got(alloc, core, place, now, message),
-        Err(_fault) => {
-            core.steps = count_on(core.steps, 1)?;
-            Ok(CoreStep::quiet(alloc))
-        }
+        Err(fault) => serves_none(alloc, core, place, fault),
     }
 }
 

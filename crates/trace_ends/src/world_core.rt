@@ -4,12 +4,14 @@
 ghost use Rattle.std.specs.Prelude.{◌≡◌, ◌+◌, [], ◌++◌, replicate, IfOk, OnOk};
 ghost use Rattle.server_core.specs.State.{empty, with_term};
 ghost use Rattle.server_core.specs.Step.{opens_with};
-ghost use Rattle.trace_ends.specs.Session.{new_seat};
+ghost use Rattle.std.specs.List.{list_any};
+ghost use Rattle.trace_ends.specs.Session.{new_seat, is_raw};
 ghost use Rattle.trace_ends.specs.View.{core_of};
 
 use crate::seat::Seat;
-use lb_base::items::{Items, Name};
+use lb_base::items::Name;
 use register_model::op::Op;
+use register_model::raw::Raw;
 use server_core::server::Server;
 use session_rules::session::Session;
 use std::alloc::{AllocError, Global};
@@ -31,6 +33,11 @@ pub struct Core {
     pub ops: Vec<Op>,
     /// The step of each change in the server's journal.
     pub entries: Vec<u64>,
+    /// Of each session the step in which the server took the last message of it while no change of it
+    /// waited.
+    pub came: Vec<u64>,
+    /// The changes of files that sessions made which are no client's.
+    pub raws: Vec<Raw>,
 }
 
 // Written by hand, it is proved here alone; derived, each crate above would prove how each part is
@@ -46,12 +53,16 @@ impl Drop for Core {
             steps: _,
             ops,
             entries,
+            came,
+            raws,
         } = self;
         drop(server);
         drop(seats);
         drop(sessions);
         drop(ops);
         drop(entries);
+        drop(came);
+        drop(raws);
     }
 }
 
@@ -79,10 +90,22 @@ fn seat_more(
     Ok(())
 }
 
+/// Whether one of these sessions is no client's.
+fn is_any_raw(sessions: &[Session]) -> bool
+    ensures { result ≡ list_any is_raw sessions.now }
+{
+    for session in sessions {
+        if session.is_raw() {
+            return true;
+        }
+    }
+    false
+}
+
 impl Core {
     /// No file, no client and no session. The one error is running out of memory.
     pub fn new(alloc: Global) -> Result<Core, AllocError>
-        ensures { IfOk result (λ core. core_of core ≡ record { server = empty; drift = 0; lbfs = 1; seats = []; sessions = []; steps = 0; ops = []; entries = [] }) }
+        ensures { IfOk result (λ core. core_of core ≡ record { server = empty; drift = 0; lbfs = 1; seats = []; sessions = []; steps = 0; ops = []; entries = []; came = []; raws = [] }) }
     {
         let server = Server::new(alloc, 0)?;
         Ok(Core {
@@ -94,6 +117,8 @@ impl Core {
             steps: 0,
             ops: Vec::new(alloc),
             entries: Vec::new(alloc),
+            came: Vec::new(alloc),
+            raws: Vec::new(alloc),
         })
     }
 
@@ -126,6 +151,13 @@ impl Core {
         self.lbfs = lbfs;
     }
 
+    /// Whether there is a session that is no client's.
+    pub fn has_raw(&self) -> bool
+        ensures { result ≡ list_any is_raw self.now.sessions.items }
+    {
+        is_any_raw(self.sessions.as_slice())
+    }
+
     /// Puts `count` clients in the place of those that are there, none of which has joined. The one error
     /// is running out of memory.
     pub fn seat_all(&mut self, alloc: Global, count: u64) -> Result<(), AllocError>
@@ -135,9 +167,10 @@ impl Core {
         seat_more(alloc, &mut self.seats, self.drift, self.lbfs, count)
     }
 
-    /// The operations and the number of steps. The ends are dropped.
-    pub fn history(self) -> (Items<Op>, u64)
-        ensures { result ≡ (self.ops.items, self.steps) }
+    /// The operations, the changes by sessions that are no client's, and the number of steps. The ends
+    /// are dropped.
+    pub fn history(self) -> (Vec<Op>, Vec<Raw>, u64)
+        ensures { (result.0.items ≡ self.ops.items) × (result.1.items ≡ self.raws.items) × (result.2 ≡ self.steps) }
     {
         let Core {
             server,
@@ -148,11 +181,14 @@ impl Core {
             steps,
             ops,
             entries,
+            came,
+            raws,
         } = self;
         drop(server);
         drop(seats);
         drop(sessions);
         drop(entries);
-        (Items::from_vec(ops), steps)
+        drop(came);
+        (ops, raws, steps)
     }
 }

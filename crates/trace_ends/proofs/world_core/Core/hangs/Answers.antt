@@ -1,0 +1,7 @@
+use Rattle.std.proofs.Common.{rules}
+use Rattle.trace_ends.specs.View.{core_of, core_step_of}
+use Rattle.trace_ends.proofs.Served.{hangs_is}
+use Rattle.trace_ends.proofs.world_core.Core.hangs.Goals as goal
+
+pub returns : goal.returns
+returns c = hangs_is (core_of c.args.self.now) c.in-Some.place c.args.session c.index.result.now c.loses.result (λ t. core_step_of c.loses.new.core t) (search rules) (search rules) (search rules) (search rules) c.loses.ensures
