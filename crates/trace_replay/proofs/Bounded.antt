@@ -17,7 +17,7 @@ use Rattle.trace_ends.specs.Core.{Core}
 use Rattle.trace_ends.specs.Session.{Seat}
 use Rattle.trace_ends.specs.Numbers.{numbered}
 use Rattle.trace_replay.specs.World.{World}
-use Rattle.trace_replay.specs.Run.{line_most, file_most, asks_if, place_for, sized, file_asks, directory_asks, joins_within, joins_if, event_asks, asks_at, asks, asks_within, asked}
+use Rattle.trace_replay.specs.Run.{raw_joins_within, line_most, file_most, asks_if, place_for, sized, file_asks, directory_asks, joins_within, joins_if, event_asks, asks_at, asks, asks_within, asked}
 use Rattle.trace_replay.specs.Turns.{IsTurnBounded}
 use Rattle.trace_replay.proofs.lemmas.Warming.{warms_turn, warm_taken}
 
@@ -56,6 +56,10 @@ joining : (standing c : ℕ) (o : Option Seat) (t : Turn) → joins_if standing 
 joining standing c None t e = refused_line Grammar t e
 joining standing c (Some seat) t e = unless_linked seat.client.linked _ c t e
 
+raw_joining : (room : Bool) (t : Turn) → raw_joins_within room ≡ asking t → IsTurnBounded t
+raw_joining true t e = taken turn.RawJoin t tt e
+raw_joining false t e = refused_line _ t e
+
 event : (k : Core) (l : Line) (t : Turn) → IsTimely l → event_asks k l ≡ asking t → IsTurnBounded t
 event k (line.Join c r s) t h e = joining (length k.server.sessions) c (numbered k.seats c) t e
 event k (line.Do c r d) t h e = when _ (turn.Do c r d) t tt e
@@ -64,6 +68,8 @@ event k (line.Down n a r) t h e = when _ (turn.Down n a r) t tt e
 event k (line.Settle s) t h e = taken (turn.Settle s) t h e
 event k (line.Cut c r) t h e = when _ (turn.Cut c) t tt e
 event k (line.Hang n s) t h e = when _ (turn.Hang n) t tt e
+event k (line.RawJoin s) t h e = raw_joining _ t e
+event k (line.Raw n bytes) t h e = when _ (turn.Raw n bytes) t tt e
 event k (line.Pass n m s r) t h e = when _ (turn.Pass n m s r) t h e
 event k (line.Forge w key file offset count) t h e = when _ (turn.Adjust (adjustment.Forge w key (record { file = file; offset = offset; count = count }))) t tt e
 event k (line.Clear w) t h e = when _ (turn.Adjust (adjustment.Clear w)) t tt e

@@ -1,4 +1,5 @@
 mod SentDown
+mod RawWay
 pub mod Numbers
 pub mod Pieces
 pub mod Rounds

@@ -27,6 +27,7 @@ use Rattle.trace_ends.specs.Core.{Core, CoreStep, Event, Event.Serves, Event.Hea
 use Rattle.trace_ends.specs.Numbers.{numbered, with_numbered}
 use Rattle.trace_ends.specs.Queue.{count_of}
 use Rattle.trace_ends.specs.Wires.{bytes_of}
+use Rattle.trace_replay.specs.Delivery.{spoilt_as}
 use Rattle.trace_replay.specs.Trail.{Moment, event_by}
 use Rattle.trace_replay.specs.World.{World, start}
 use Rattle.trace_replay.specs.Run.{place_for}
@@ -71,8 +72,17 @@ abbrev pub bytes_from : Side → (number : ℕ) → (was : List ℕ) → List Mo
 bytes_from side number was [] = was
 bytes_from side number was (m ∷ ms) = bytes_from side number (bytes_after side number was m) ms
 
-abbrev pub bytes_sent : Side → (number : ℕ) → List Moment → List ℕ
-bytes_sent side number ms = bytes_from side number [] ms
+-- what was sent each way on each session so far
+abbrev pub AllSent : Type 0
+AllSent = Side → (number : ℕ) → List ℕ
+
+abbrev pub nothing_sent : AllSent
+nothing_sent side number = []
+
+-- a line has a session that is no client's send some bytes
+abbrev pub sent_with : AllSent → Core → (session : ℕ) → List ℕ → AllSent
+sent_with sent k session bytes Up number = elim (session == number) [ true ↦ unless_shut (is_shut Up (numbered k.sessions session)) (sent Up number ++ bytes) | false ↦ sent Up number ]
+sent_with sent k session bytes Down number = sent Down number
 
 -- ---- what comes
 
@@ -106,9 +116,10 @@ more_came there this was count = was
 abbrev pub came_with : Came → Delivery → (count : ℕ) → Came
 came_with came d count side number = more_came (is_side d.side side) (d.session == number) (came side number) count
 
--- the records that some bytes complete
-abbrev pub records_in : List ℕ → List (List ℕ)
-records_in bytes = (split bytes).records
+-- the records that some bytes complete; on the way up one that is no message is behind them, where no more can follow
+abbrev pub records_in : Side → List ℕ → List (List ℕ)
+records_in Up bytes = let p = split bytes in p.records ++ spoilt_as p.spoilt
+records_in Down bytes = (split bytes).records
 
 -- the end takes a record
 abbrev pub event_at : Side → (session now : ℕ) → (bytes : List ℕ) → Event
@@ -128,12 +139,12 @@ pub record IsDelivered (sent : List ℕ) (came : ℕ) (k : Core) (d : Delivery) 
   pub records : List (List ℕ)
   pub events : map (λ (m : Moment). m.event) own ≡ map (event_at d.side d.session d.now) records
   pub chain : IsChain k own last
-  pub complete : records_in (take came sent ++ brought d.amount came sent) ≡ records_in (take came sent) ++ records
+  pub complete : records_in d.side (take came sent ++ brought d.amount came sent) ≡ records_in d.side (take came sent) ++ records
 
 -- ---- lines
 
--- a line says which version of LBFS clients speak, for how long leases are granted, or how far clocks may drift apart; it opens with clients, or with a file or directory; something happens; an
--- index or what a client keeps is changed; or bytes come
+-- a line says which version of LBFS clients speak, for how long leases are granted, or how far clocks may drift apart; it opens with clients, or with a file or directory; something happens; a
+-- session that is no client's sends bytes; an index or what a client keeps is changed; or bytes come
 pub data Part : Type 0 where
   Speaks : (lbfs : ℕ) → Part
   Grants : (term : ℕ) → Part
@@ -141,6 +152,7 @@ pub data Part : Type 0 where
   Clients : (count : ℕ) → Part
   Opens : Spot → Body → Part
   Tells : Event → Part
+  Sends : (session : ℕ) → List ℕ → Part
   Changes : Line → Part
   Brings : Delivery → Part
 
@@ -159,6 +171,7 @@ parts_by (Some (line.File spot content)) = Opens spot (File (content_bytes conte
 parts_by (Some (line.Up session a server)) = Brings (record { side = Up; session = session; amount = a; now = server }) ∷ []
 parts_by (Some (line.Down session a at)) = Brings (record { side = Down; session = session; amount = a; now = at }) ∷ []
 parts_by (Some (line.Pass session rounds server at)) = rounds_of rounds session server at
+parts_by (Some (line.Raw session bytes)) = Sends session bytes ∷ []
 parts_by (Some (line.Forge w key file offset count)) = Changes (line.Forge w key file offset count) ∷ []
 parts_by (Some (line.Clear w)) = Changes (line.Clear w) ∷ []
 parts_by (Some (line.Evict c file)) = Changes (line.Evict c file) ∷ []
@@ -191,25 +204,31 @@ abbrev pub IsOpenedWith : Core → Spot → Body → (after : Core) → Type 0
 IsOpenedWith k s b after = (dir : ℕ) × (place_for k.server.tree s ≡ Some dir) × (after ≡ record k { server = opens_with k.server dir s.name b })
 
 -- which moments a part has, where the ends were so before, and are so after
-abbrev pub HasMoments : (past : List Moment) → Came → Core → Part → (own : List Moment) → (after : Core) → Type 0
-HasMoments past came k (Speaks lbfs) own after = (own ≡ []) × (after ≡ record k { lbfs = lbfs })
-HasMoments past came k (Grants term) own after = (own ≡ []) × (after ≡ record k { server = with_term k.server term })
-HasMoments past came k (Drifts drift) own after = (own ≡ []) × (after ≡ record k { drift = drift })
-HasMoments past came k (Clients count) own after = (own ≡ []) × (after ≡ record k { seats = replicate count (new_seat k.drift k.lbfs) })
-HasMoments past came k (Opens s b) own after = (own ≡ []) × IsOpenedWith k s b after
-HasMoments past came k (Tells e) own after = (own ≡ record { before = k; event = e } ∷ []) × (after ≡ (happens k e).core)
-HasMoments past came k (Changes l) own after = (own ≡ []) × (after ≡ changed_by k l)
-HasMoments past came k (Brings d) own after = IsDelivered (bytes_sent d.side d.session past) (came d.side d.session) k d own after
+abbrev pub HasMoments : AllSent → Came → Core → Part → (own : List Moment) → (after : Core) → Type 0
+HasMoments sent came k (Speaks lbfs) own after = (own ≡ []) × (after ≡ record k { lbfs = lbfs })
+HasMoments sent came k (Grants term) own after = (own ≡ []) × (after ≡ record k { server = with_term k.server term })
+HasMoments sent came k (Drifts drift) own after = (own ≡ []) × (after ≡ record k { drift = drift })
+HasMoments sent came k (Clients count) own after = (own ≡ []) × (after ≡ record k { seats = replicate count (new_seat k.drift k.lbfs) })
+HasMoments sent came k (Opens s b) own after = (own ≡ []) × IsOpenedWith k s b after
+HasMoments sent came k (Tells e) own after = (own ≡ record { before = k; event = e } ∷ []) × (after ≡ (happens k e).core)
+HasMoments sent came k (Sends session bytes) own after = (own ≡ []) × (after ≡ k)
+HasMoments sent came k (Changes l) own after = (own ≡ []) × (after ≡ changed_by k l)
+HasMoments sent came k (Brings d) own after = IsDelivered (sent d.side d.session) (came d.side d.session) k d own after
 
-abbrev pub came_after : (past : List Moment) → Came → Part → Came
-came_after past came (Brings d) = came_with came d (length (brought d.amount (came d.side d.session) (bytes_sent d.side d.session past)))
-came_after past came p = came
+abbrev pub came_after : AllSent → Came → Part → Came
+came_after sent came (Brings d) = came_with came d (length (brought d.amount (came d.side d.session) (sent d.side d.session)))
+came_after sent came p = came
 
--- All moments behind these are those of the parts, in order, and the ends go on from each to the next, up to the last.
-abbrev pub IsRunOf : (past : List Moment) → Came → Core → List Part → (ms : List Moment) → (last : Core) → Type 0
-IsRunOf past came k [] ms last = (ms ≡ []) × (last ≡ k)
-IsRunOf past came k (p ∷ ps) ms last = (own rest : List Moment) × (mid : Core) × (ms ≡ own ++ rest) × HasMoments past came k p own mid × IsRunOf (past ++ own) (came_after past came p) mid ps rest last
+-- what is sent in a part, behind what was
+abbrev pub sent_after : AllSent → Core → Part → (own : List Moment) → AllSent
+sent_after sent k (Sends session bytes) own = sent_with sent k session bytes
+sent_after sent k p own = λ side number. bytes_from side number (sent side number) own
+
+-- All moments are those of the parts, in order, and the ends go on from each to the next, up to the last.
+abbrev pub IsRunOf : AllSent → Came → Core → List Part → (ms : List Moment) → (last : Core) → Type 0
+IsRunOf sent came k [] ms last = (ms ≡ []) × (last ≡ k)
+IsRunOf sent came k (p ∷ ps) ms last = (own rest : List Moment) × (mid : Core) × (ms ≡ own ++ rest) × HasMoments sent came k p own mid × IsRunOf (sent_after sent k p own) (came_after sent came p) mid ps rest last
 
 -- of a whole trace, and of the world that it comes to
 abbrev pub IsChained : (input : List ℕ) → List Moment → World → Type 0
-IsChained input ms w = IsRunOf [] nothing_came start.core (parts_of (lines_of input)) ms w.core
+IsChained input ms w = IsRunOf nothing_sent nothing_came start.core (parts_of (lines_of input)) ms w.core

@@ -9,16 +9,21 @@ use Rattle.trace_text.specs.declared.line.Line.TheVariants as line
 use Rattle.trace_text.specs.declared.line.Who.TheVariants as who
 use Rattle.trace_ends.specs.Core.{Core, Event.Cuts}
 use Rattle.trace_ends.specs.Session.{Seat, new_seat}
-use Rattle.trace_replay.specs.Chained.{Up, Down, Delivery, brought, records_in, event_at, nothing_came, IsDelivered, Speaks, Grants, Drifts, Clients, Tells, Changes, Brings, parts_of, HasMoments}
+use Rattle.trace_replay.specs.Chained.{Up, Down, Delivery, brought, records_in, event_at, nothing_sent, nothing_came, IsDelivered, Speaks, Grants, Drifts, Clients, Tells, Changes, Brings, parts_of, HasMoments}
 
 -- two records of a byte each, five bytes on their way each
 abbrev two : List ℕ
 two = marked (7 ∷ []) ++ marked (8 ∷ [])
 
 -- four bytes complete none, a fifth the first, and however many more there are they complete the second with the rest
-pub come_cut : map (λ a. records_in (brought a 0 two)) (amount.Bytes 4 ∷ amount.Bytes 5 ∷ amount.Bytes 9 ∷ amount.All ∷ []) ≡ [] ∷ ((7 ∷ []) ∷ []) ∷ ((7 ∷ []) ∷ []) ∷ ((7 ∷ []) ∷ (8 ∷ []) ∷ []) ∷ []
+pub come_cut : map (λ a. records_in Up (brought a 0 two)) (amount.Bytes 4 ∷ amount.Bytes 5 ∷ amount.Bytes 9 ∷ amount.All ∷ []) ≡ [] ∷ ((7 ∷ []) ∷ []) ∷ ((7 ∷ []) ∷ []) ∷ ((7 ∷ []) ∷ (8 ∷ []) ∷ []) ∷ []
 unfolding record_of
 come_cut = refl
+
+-- a record that is too long is no message, and ends what the server takes
+pub come_spoilt : (records_in Up (marked (7 ∷ []) ++ 255 ∷ 255 ∷ 255 ∷ 255 ∷ [])) ≡ (7 ∷ []) ∷ [] ∷ []
+unfolding record_of
+come_spoilt = refl
 
 -- behind bytes that came the next ones come, and no more than there are
 pub come_next : map (λ a. brought a 6 two) (amount.Bytes 1 ∷ amount.Bytes 9 ∷ amount.All ∷ []) ≡ (0 ∷ []) ∷ (0 ∷ 0 ∷ 1 ∷ 8 ∷ []) ∷ (0 ∷ 0 ∷ 1 ∷ 8 ∷ []) ∷ []
@@ -46,13 +51,13 @@ pub header_told : parts_of (lines_of (codes "lbfs-trace 1\nterm 5\ndrift 6\nclie
 header_told = refl
 
 -- clients come with the version of LBFS that was said, and not with another
-pub speaks_so : (k : Core) → HasMoments [] nothing_came k (Speaks 4) [] (record k { lbfs = 4 })
+pub speaks_so : (k : Core) → HasMoments nothing_sent nothing_came k (Speaks 4) [] (record k { lbfs = 4 })
 speaks_so k = (refl, refl)
 
-pub comes_so : (k : Core) → HasMoments [] nothing_came (record k { drift = 5; lbfs = 4 }) (Clients 1) [] (record k { drift = 5; lbfs = 4; seats = new_seat 5 4 ∷ [] })
+pub comes_so : (k : Core) → HasMoments nothing_sent nothing_came (record k { drift = 5; lbfs = 4 }) (Clients 1) [] (record k { drift = 5; lbfs = 4; seats = new_seat 5 4 ∷ [] })
 comes_so k = (refl, refl)
 
-speaks_another : (k : Core) → HasMoments [] nothing_came (record k { drift = 5; lbfs = 4 }) (Clients 1) [] (record k { drift = 5; lbfs = 4; seats = new_seat 5 1 ∷ [] }) → ⊥
+speaks_another : (k : Core) → HasMoments nothing_sent nothing_came (record k { drift = 5; lbfs = 4 }) (Clients 1) [] (record k { drift = 5; lbfs = 4; seats = new_seat 5 1 ∷ [] }) → ⊥
 speaks_another k h = let same : 1 ≡ 4 = ap (λ (c : Core). first c.seats) h.1 in absurd (omega (arith, same))
   where
     first : List Seat → ℕ

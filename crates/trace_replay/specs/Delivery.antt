@@ -1,6 +1,8 @@
 -- Bytes that come to an end, in whatever pieces: each record that they complete is a step of that end.
-use Rattle.std.specs.Prelude.{ℕ, zero, suc, List, [], ◌∷◌, map, Option, Some, None, Bool, true, false, length, take, drop}
+use Rattle.std.specs.Prelude.{ℕ, zero, suc, List, [], ◌∷◌, ◌++◌, map, Option, Some, None, Bool, true, false, length, take, drop}
 use Rattle.rpc_record.specs.Records.{fed}
+use Rattle.rpc_record.specs.declared.records.Fed.{Fed}
+use Rattle.rpc_record.specs.declared.refusal.Refusal.{Refusal}
 use Rattle.trace_ends.specs.Core.{Event, Event.Serves, Event.Hears}
 use Rattle.trace_ends.specs.Numbers.{numbered, with_numbered}
 use Rattle.trace_replay.specs.World.{World, happened}
@@ -13,11 +15,20 @@ all_happened w (e ∷ es) = all_happened (happened w e) es
 
 -- ---- bytes on their way up
 
+-- A stream that can have no record any more brings one that is no message: so it closes its session.
+abbrev pub spoilt_as : Option Refusal → List (List ℕ)
+spoilt_as None = []
+spoilt_as (Some why) = [] ∷ []
+
+-- what the server takes of the bytes that came
+abbrev pub taken_up : Fed → List (List ℕ)
+taken_up f = f.records ++ spoilt_as f.spoilt
+
 abbrev pub up_taken : World → (number count : ℕ) → Wire → World
 up_taken w number count q = record w { wires = with_numbered w.wires number (record q { up = drop count q.up; server_end = (fed q.server_end (take count q.up)).0 }) }
 
 abbrev pub up_events : (number now count : ℕ) → Wire → List Event
-up_events number now count q = map (Serves number now) (fed q.server_end (take count q.up)).1.records
+up_events number now count q = map (Serves number now) (taken_up (fed q.server_end (take count q.up)).1)
 
 abbrev pub up_at : World → (number count now : ℕ) → Option Wire → World
 up_at w number count now None = w

@@ -38,17 +38,19 @@ use Rattle.trace_replay.specs.NameChanges.{NamesChangeBy}
 use Rattle.trace_replay.specs.Entries.{JournalGrows, IsChangedBy}
 use Rattle.trace_replay.specs.Walking.{AreCalls, HasFoundFile}
 use Rattle.trace_ends.specs.Commands.{word_of, file_of}
-use Rattle.trace_ends.specs.Session.{Session}
+use Rattle.trace_ends.specs.Session.{Session, is_raw}
+use Rattle.register_model.specs.declared.raw.Raw.{Raw}
+use Rattle.register_model.specs.declared.raw.RawKind.TheVariants as raw_kind
 use Rattle.trace_ends.specs.Numbers.{numbered}
 use Rattle.trace_replay.specs.Trail.{Deed, Moment, Said, AreCounted, told_of, events_of, deeds_of, told_in, openings_of, commands_of, step_of, sent_of, taken_of}
 use Rattle.trace_replay.specs.Traffic.{is_of, attempts_of, traffic_of, stored_traffic, CountsOwn, SentCommit, AttemptsEnd, AttemptsMet, deals_of, IsFor, NamesChunks}
 use Rattle.trace_replay.specs.Fetches.{EachReaches, GotBy, last_fetch, read_traffic}
 use Rattle.trace_replay.specs.Owing.{owes_nothing, PaysAll}
 use Rattle.trace_replay.specs.Numbered.{numbers_of, CountOn}
-use Rattle.trace_replay.specs.Book.{Book, Or, version_at}
+use Rattle.trace_replay.specs.Book.{Book, Or, history, version_at}
 use Rattle.trace_replay.specs.OwnCalls.{TakesCall}
 use Rattle.trace_replay.specs.AtOnce.{EndsFresh}
-use Rattle.trace_replay.specs.PendingChanges.{WaitInTurn}
+use Rattle.trace_replay.specs.PendingChanges.{ClosesRaw, WaitInTurn}
 use Rattle.trace_replay.specs.Notes.{AnswersRecall, NotesCome}
 use Rattle.trace_replay.specs.Causes.{HasCause, can_go, is_busy, local_before, own_answer}
 
@@ -184,10 +186,10 @@ IsKind w k = ⊥
 abbrev pub left_by : Op → List ℕ
 left_by o = unwrap_or (value_from o.word o.value) []
 
--- An entry of this step tells a change: that of an operation whose point it is, of its file, with what that left of it, in the version after that
+-- An entry of this step tells a change: that of an operation, or of a session that is no client's, whose point it is, of its file, with what that left of it, in the version after that
 -- of the file before.
 abbrev pub Tells : Book → (step : ℕ) → Entry → Type 0
-Tells book p e = (k : ℕ) × (o : Op) × (slice_get book.ops k ≡ Some o) × IsKind o.word e.kind × (o.point ≡ Some p) × (o.file ≡ e.file) × (length (left_by o) ≡ e.len) × Or book (sha1 (left_by o) ≡ e.sha1) × (e.version ≡ version_at book e.file p + 1)
+Tells book p e = (k : ℕ) × (o : Op) × (slice_get (history book).ops k ≡ Some o) × IsKind o.word e.kind × (o.point ≡ Some p) × (o.file ≡ e.file) × (length (left_by o) ≡ e.len) × Or book (sha1 (left_by o) ≡ e.sha1) × (e.version ≡ version_at book e.file p + 1)
 
 -- the changes of files in the server's journal are those of the operations that have a point as a change, one for one and in order
 pub record HasJournal (book : Book) : Type 0 where
@@ -198,9 +200,9 @@ pub record HasJournal (book : Book) : Type 0 where
   -- each of a file tells the change of one
   pub made : (i p : ℕ) (e : Entry) → slice_get book.entries i ≡ Some p → slice_get book.journal i ≡ Some e → is_of_file e.kind ≡ true → Tells book p e
   -- and each operation that has a point as a change made one
-  pub only : (k p : ℕ) (o : Op) → slice_get book.ops k ≡ Some o → changes o.word ≡ true → o.point ≡ Some p → (i : ℕ) × (e : Entry) × (slice_get book.entries i ≡ Some p) × (slice_get book.journal i ≡ Some e) × (is_of_file e.kind ≡ true)
+  pub only : (k p : ℕ) (o : Op) → slice_get (history book).ops k ≡ Some o → changes o.word ≡ true → o.point ≡ Some p → (i : ℕ) × (e : Entry) × (slice_get book.entries i ≡ Some p) × (slice_get book.journal i ≡ Some e) × (is_of_file e.kind ≡ true)
   -- which no other operation made: none has the same point
-  pub once : (k m p : ℕ) (o q : Op) → slice_get book.ops k ≡ Some o → slice_get book.ops m ≡ Some q → changes o.word ≡ true → o.point ≡ Some p → q.point ≡ Some p → k ≡ m
+  pub once : (k m p : ℕ) (o q : Op) → slice_get (history book).ops k ≡ Some o → slice_get (history book).ops m ≡ Some q → changes o.word ≡ true → o.point ≡ Some p → q.point ≡ Some p → k ≡ m
 
 -- The change of this number was made in this step: at a moment at which the server was told to make one, with so many before it. It is the
 -- one that was ready, and the journal's entry tells it; it is that of a close of the client whose session asked for it, of the close's value,
@@ -248,6 +250,33 @@ pub record IsRemoved (moments : List Moment) (step : ℕ) (e : Entry) : Type 0 w
   pub file_is : e.file ≡ change.file
   pub session_is : e.session ≡ change.session
 
+-- Or a content that is settled is a session's that is no client's, and this has it whole: so the history's line of it says, with no premise on digests.
+pub record IsRawSettled (book : Book) (number step : ℕ) : Type 0 where
+  pub moment : Moment
+  pub there : Contains book.moments moment
+  pub now : ℕ
+  pub event_is : moment.event ≡ Settles now
+  pub step_is : step_of moment ≡ step
+  pub number_is : length moment.before.server.journal ≡ number
+  pub change : FileChange
+  pub ready : ready_by moment.before.server now ≡ Some change
+  pub session : Session
+  pub on : numbered moment.before.sessions change.session ≡ Some session
+  pub raw : is_raw session ≡ true
+  -- its message came in this step
+  pub came : ℕ
+  pub came_is : numbered moment.before.came change.session ≡ Some came
+  pub entry : Entry
+  pub entry_is : slice_get book.journal number ≡ Some entry
+  pub content : List ℕ
+  pub what_is : change.what ≡ wanted.Content content
+  pub place : ℕ
+  pub line : Raw
+  pub line_is : slice_get book.raws place ≡ Some line
+  pub told : line ≡ record { session = change.session; kind = raw_kind.Commit; file = change.file; begin = came; point = step; version = entry.version; len = length content; sha1 = sha1 content; value = content }
+  -- as the entry says
+  pub entry_told : entry ≡ record { file = change.file; version = entry.version; kind = kind.Commit; len = length content; sha1 = sha1 content; session = change.session }
+
 -- why an answer to what waited refuses, if it does
 abbrev pub change_refusal : Message → Option Status
 change_refusal (message.Answer xid (body.Lb (lb.CommitTmpAnswer a))) = failed_by a
@@ -293,11 +322,13 @@ pub record IsFaithful (input : List ℕ) (book : Book) : Type 0 where
       → IsDone book d o (local_before (deeds_of book.moments) book.ops k d.client o.file)
   pub cuts : CutsEnd book
   pub journal : HasJournal book
-  pub settled : (i p : ℕ) (e : Entry) → slice_get book.entries i ≡ Some p → slice_get book.journal i ≡ Some e → e.kind ≡ kind.Commit → IsSettled book i p
+  pub settled : (i p : ℕ) (e : Entry) → slice_get book.entries i ≡ Some p → slice_get book.journal i ≡ Some e → e.kind ≡ kind.Commit → IsSettled book i p ⊎ IsRawSettled book i p
   pub removed : (i p : ℕ) (e : Entry) → slice_get book.entries i ≡ Some p → slice_get book.journal i ≡ Some e → e.kind ≡ kind.Remove → IsRemoved book.moments p e
   pub settles : SettlesReady book
   -- a change waits no longer than the leases on its file last, and than those that stand before it
   pub waits : WaitInTurn book
+  -- and no session of a client is closed, with its change
+  pub closed : (m : Moment) → Contains book.moments m → ClosesRaw m
   -- a client is asked for its lease, and answers; and what it notes of leases was told it
   pub recalls : (m : Moment) → Contains book.moments m → AnswersRecall m
   pub notes : (m : Moment) → Contains book.moments m → NotesCome book.moments m

@@ -13,6 +13,8 @@ pub mod OwnCalls
 pub mod Causes
 pub mod Rows
 pub mod LeaseRows
+pub mod RawRows
+pub mod RecordRows
 pub mod NameRows
 pub mod TrailRows
 pub mod AtOnceRows
@@ -24,6 +26,7 @@ pub mod WarmRows
 pub mod PendingChanges
 pub mod PendingRows
 pub mod Notes
+pub mod NoteRows
 pub mod Walking
 pub mod WalkingRows
 pub mod Fetches

@@ -13,7 +13,13 @@ use Rattle.tree_reading.specs.declared.call.CreateMode.TheVariants as mode
 use Rattle.tree_reading.specs.declared.call.Reservation.{Reservation}
 use Rattle.path_calls.specs.Walk.{place, create_call, make_dir_call, rename_call}
 use Rattle.register_model.specs.declared.op.Op.{Op}
-use Rattle.trace_ends.specs.Core.{Event.Serves, server_waiting, happens}
+use Rattle.server_core.specs.Closing.{ready_by}
+use Rattle.server_core.specs.State.{FileChange}
+use Rattle.server_core.specs.declared.change.Wanted.TheVariants as wanted
+use Rattle.tree_calls.specs.declared.asked.Asked.{Asked}
+use Rattle.trace_ends.specs.Core.{Event.Serves, Event.Settles, server_waiting, happens}
+use Rattle.trace_ends.specs.Numbers.{numbered}
+use Rattle.trace_ends.specs.Session.{Session, is_raw}
 use Rattle.trace_replay.specs.Trail.{Moment, step_of, client_of}
 use Rattle.trace_replay.specs.Traffic.{is_in}
 use Rattle.trace_replay.specs.Book.{Book}
@@ -79,6 +85,15 @@ IsStepOf o m = is_in o (step_of m) (client_of m.before m.event) ≡ true
 abbrev pub ChangesBy : Book → Moment → Type 0
 ChangesBy book m = (n : MakesNaming book.moments m) × (k : ℕ) × (o : Op) × (slice_get book.ops k ≡ Some o) × IsStepOf o n.takes.sent.moment
 
+-- in this step the server takes a call of this session by which names may change, or settles what such a one left pending
+abbrev pub IsOwnNaming : Moment → (session : ℕ) → Type 0
+IsOwnNaming m session = ((now xid : ℕ) × (bytes : List ℕ) × (call : Nfs) × (m.event ≡ Serves session now bytes) × (parse_of server_waiting bytes ≡ Ok (message.Call xid (body.Nfs call))) × ChangesNames call)
+    ⊎ ((now : ℕ) × (c : FileChange) × (a : Asked) × (m.event ≡ Settles now) × (ready_by m.before.server now ≡ Some c) × (c.session ≡ session) × (c.what ≡ wanted.Asked a))
+
+-- or it is so of a session that is no client's
+abbrev pub ChangesRaw : Moment → Type 0
+ChangesRaw m = (session : ℕ) × (x : Session) × (numbered m.before.sessions session ≡ Some x) × (is_raw x ≡ true) × IsOwnNaming m session
+
 -- names change at no other moment
 abbrev pub NamesChangeBy : Book → Moment → Type 0
-NamesChangeBy book m = KeepsNames m ⊎ ChangesBy book m
+NamesChangeBy book m = KeepsNames m ⊎ (ChangesBy book m ⊎ ChangesRaw m)

@@ -1,6 +1,6 @@
 -- What becomes of the changes that are pending at the server in each step of a run, and of the leases that hold them up (Gray and Cheriton, SOSP 1989): a change
 -- waits no longer than these last, and than those that stand before it.
-use Rattle.std.specs.Prelude.{◌≡◌, ◌⊎◌, ℕ, ◌+◌, ◌<◌, ◌≤◌, List, [], ◌∷◌, ◌++◌, length, true, nat_le, max, remove, Option, Some, None, Ok, Contains, slice_get}
+use Rattle.std.specs.Prelude.{◌≡◌, ◌⊎◌, ℕ, ◌+◌, ◌<◌, ◌≤◌, List, [], ◌∷◌, ◌++◌, length, true, nat_le, max, remove, Option, Some, None, Ok, Err, Contains, slice_get}
 use Rattle.std.specs.Option.{option_map}
 use Rattle.limits.specs.declared.TheConstants.{XIDS_MOST}
 use Rattle.xdr_codec.specs.Handle.{file_of, handle_bytes}
@@ -8,6 +8,8 @@ use Rattle.hash_calls.specs.declared.message.Back.TheVariants as back
 use Rattle.hash_calls.specs.declared.message.Lb.TheVariants as lb
 use Rattle.nfs3_calls.specs.declared.message.Nfs.TheVariants as nfs
 use Rattle.wire.specs.Parse.{parse_of}
+use Rattle.wire.specs.declared.fault.WireFault.{WireFault}
+use Rattle.wire.specs.declared.fault.WireFault.TheVariants as fault
 use Rattle.wire.specs.declared.message.Body.{Body}
 use Rattle.wire.specs.declared.message.Body.TheVariants as body
 use Rattle.wire.specs.declared.message.Message.TheVariants as message
@@ -27,6 +29,8 @@ use Rattle.server_core.specs.declared.change.Wanted.{Wanted}
 use Rattle.server_core.specs.declared.change.Wanted.TheVariants as wanted
 use Rattle.server_core.specs.declared.event.Sent.{Sent}
 use Rattle.trace_ends.specs.Core.{Event, Event.Serves, Event.Settles, Event.Hangs, server_waiting, happens}
+use Rattle.trace_ends.specs.Numbers.{numbered}
+use Rattle.trace_ends.specs.Session.{Session, is_raw}
 use Rattle.trace_replay.specs.Trail.{Moment, step_if}
 use Rattle.trace_replay.specs.Chained.{sent_to}
 use Rattle.trace_replay.specs.Numbered.{numbers_among, CountOn}
@@ -168,9 +172,22 @@ pub record Comes (till : List Moment) (v : Move) (session now : ℕ) (bytes : Li
   pub behind : v.after.waiting ≡ v.before.waiting ++ c ∷ []
   pub asks : AsksForAll till v now c
 
+-- an answer to a call that doesn't wait closes no session, but all else that is no message does
+abbrev pub EndsSession : WireFault → Type 0
+EndsSession (fault.UnknownXid xid) = ⊥
+EndsSession e = Unit {0}
+
+-- these bytes of a session are no message, by which the server closes it
+abbrev pub ClosedBy : Move → (session : ℕ) → (bytes : List ℕ) → Type 0
+ClosedBy v session bytes = (e : WireFault) × (parse_of (waiting_at v.before.leasing.calls session) bytes ≡ Err e) × EndsSession e
+
+-- a session that is closed so is no client's
+abbrev pub ClosesRaw : Moment → Type 0
+ClosesRaw m = (session now : ℕ) (bytes : List ℕ) (x : Session) → m.event ≡ Serves session now bytes → numbered m.before.sessions session ≡ Some x → ClosedBy (move_of m) session bytes → is_raw x ≡ true
+
 -- How the list of pending changes goes on: one comes, one is taken out by a settling, or the change of a session goes with it; and the others stay, in order.
 abbrev pub GoesOn : (till : List Moment) → Event → Move → Type 0
-GoesOn till (Serves session now bytes) v = (v.after.waiting ≡ v.before.waiting) ⊎ ((c : FileChange) × Comes till v session now bytes c)
+GoesOn till (Serves session now bytes) v = (v.after.waiting ≡ v.before.waiting) ⊎ (((c : FileChange) × Comes till v session now bytes c) ⊎ (ClosedBy v session bytes × (v.after.waiting ≡ without v.before.waiting session)))
 GoesOn till (Settles now) v = (v.after.waiting ≡ v.before.waiting) ⊎ ((place : ℕ) × (c : FileChange) × (ready_by v.before now ≡ Some c) × (slice_get v.before.waiting place ≡ Some c) × (v.after.waiting ≡ remove v.before.waiting place))
 GoesOn till (Hangs session) v = v.after.waiting ≡ without v.before.waiting session
 GoesOn till e v = v.after.waiting ≡ v.before.waiting
@@ -197,9 +214,11 @@ abbrev pub settlings : (reading : ℕ) → List Moment → ℕ
 settlings reading [] = 0
 settlings reading (m ∷ ms) = settling_at reading m.event + settlings reading ms
 
--- the change is taken out in this step: by a settling, or its session is lost
+-- the change is taken out in this step: by a settling, or its session is lost or closed
 abbrev pub TakesOut : Moment → FileChange → Type 0
-TakesOut m c = ((now : ℕ) × (m.event ≡ Settles now) × (ready_by m.before.server now ≡ Some c)) ⊎ (m.event ≡ Hangs c.session)
+TakesOut m c =
+    ((now : ℕ) × (m.event ≡ Settles now) × (ready_by m.before.server now ≡ Some c))
+    ⊎ ((m.event ≡ Hangs c.session) ⊎ ((now : ℕ) × (bytes : List ℕ) × (m.event ≡ Serves c.session now bytes) × ClosedBy (move_of m) c.session bytes))
 
 -- Where from a moment and a reading on nothing holds it up but others before it, it is taken out by as many settlings as its place, counted from 1: whatever else
 -- happens among them, and whatever comes.

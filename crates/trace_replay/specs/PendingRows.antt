@@ -4,6 +4,7 @@ use Rattle.std.proofs.Common.{ap, sym, ◌∙◌, inl, inr, arith, get_or}
 use Rattle.xdr_codec.specs.Handle.{handle_bytes}
 use Rattle.hash_calls.specs.declared.message.Lb.TheVariants as lb
 use Rattle.nfs3_calls.specs.declared.message.Nfs.TheVariants as nfs
+use Rattle.wire.specs.declared.fault.WireFault.TheVariants as fault
 use Rattle.wire.specs.declared.message.Body.TheVariants as body
 use Rattle.lease_rules.specs.Changes.{meets}
 use Rattle.lease_rules.specs.declared.lease.Lease.{Lease}
@@ -23,7 +24,7 @@ use Rattle.trace_ends.specs.Core.{Event, Event.Serves, Event.Settles, Event.Hang
 use Rattle.trace_replay.specs.Book.{Book}
 use Rattle.trace_replay.specs.Trail.{Moment, step_of}
 use Rattle.trace_replay.specs.Faithful.{TakesReady, IsRemoved}
-use Rattle.trace_replay.specs.PendingChanges.{Move, KeepsTime, GrantsTo, IsGranted, IsAskedFor, LeasesCome, GrantsNone, GivesUp, AsksFor, AsksForAll, GoesOn, file_asked, settlings}
+use Rattle.trace_replay.specs.PendingChanges.{Move, KeepsTime, GrantsTo, IsGranted, IsAskedFor, LeasesCome, GrantsNone, GivesUp, AsksFor, AsksForAll, EndsSession, GoesOn, file_asked, settlings}
 
 -- ---- states
 
@@ -86,7 +87,14 @@ in_front (inl same) = absurd (cons_nil (tail same))
 
     cons_nil : {x : FileChange} {xs : List FileChange} → x ∷ xs ≡ [] → ⊥
     cons_nil e = absurd cc
-in_front (inr (c, comes)) = let e = ap session_of (head comes.behind) in absurd (omega (arith, e))
+in_front (inr (inr (closed, left))) = absurd (cons_nil (tail left))
+  where
+    tail : {x y : FileChange} {xs ys : List FileChange} → x ∷ xs ≡ y ∷ ys → xs ≡ ys
+    tail e = cc
+
+    cons_nil : {x : FileChange} {xs : List FileChange} → x ∷ xs ≡ [] → ⊥
+    cons_nil e = absurd cc
+in_front (inr (inl (c, comes))) = let e = ap session_of (head comes.behind) in absurd (omega (arith, e))
   where
     session_of : FileChange → ℕ
     session_of c = c.session
@@ -97,6 +105,19 @@ in_front (inr (c, comes)) = let e = ap session_of (head comes.behind) in absurd 
 -- a change is lost as another session's connection is
 lost_with_another : GoesOn [] (Hangs 3) (record { event = Hangs 3; before = state (close 2 2 ∷ []) []; after = state [] []; sent = [] }) → ⊥
 lost_with_another e = absurd cc
+
+-- or as another session is closed
+lost_with_a_closed : GoesOn [] (Serves 4 0 []) (served (state (close 2 2 ∷ []) []) (state [] []) []) → ⊥
+lost_with_a_closed (inl same) = absurd cc
+lost_with_a_closed (inr (inl (c, comes))) = let e = comes.behind in absurd (nil_cons e)
+  where
+    nil_cons : {x : FileChange} {xs : List FileChange} → [] ≡ x ∷ xs → ⊥
+    nil_cons e = absurd cc
+lost_with_a_closed (inr (inr (closed, left))) = absurd cc
+
+-- or by an answer to a call that doesn't wait
+lost_by_an_answer : EndsSession (fault.UnknownXid 5) → ⊥
+lost_by_an_answer h = h
 
 -- an answer to a RECALL gives nothing up, or another's lease too
 gives_nothing_up : GivesUp (served (state [] (lease 4 2 1000 (Some 1) ∷ [])) (state [] (lease 4 2 1000 (Some 1) ∷ [])) []) 4 1 → ⊥
@@ -171,7 +192,7 @@ asks_nobody h = by (h 0 (lease 3 2 1000 None) refl refl refl (omega arith) refl 
 
 -- a settling takes the second change of a file, or one within the quiet after the start
 abbrev settled : State → Moment
-settled s = record { before = record { server = s; seats = []; sessions = []; steps = 0; drift = 0; lbfs = 1; ops = []; entries = [] }; event = Settles 100 }
+settled s = record { before = record { server = s; seats = []; sessions = []; steps = 0; drift = 0; lbfs = 1; ops = []; entries = []; came = []; raws = [] }; event = Settles 100 }
 
 second_made : (book : Book) → TakesReady book (settled (state (close 2 2 ∷ close 3 2 ∷ []) [])) 100 (close 3 2) → ⊥
 second_made book t = by t.place t.there t.first

@@ -21,9 +21,10 @@ abbrev pub said_by : (owners : List ℕ) → Option Line → List Timing
 said_by owners None = []
 said_by owners (Some l) = said (timing_of owners l)
 
--- the owners of sessions, with that of the session that a line makes
+-- the owners of sessions, with that of the session that a line makes: 0, which is no client, of one that has none
 abbrev pub owners_by : (owners : List ℕ) → Option Line → List ℕ
 owners_by owners (Some (line.Join c r s)) = owners ++ c ∷ []
+owners_by owners (Some (line.RawJoin s)) = owners ++ 0 ∷ []
 owners_by owners _ = owners
 
 -- what lines say of the clocks, in order, where these are the owners of the sessions that were made before

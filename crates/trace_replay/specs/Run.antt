@@ -1,5 +1,5 @@
 -- A trace run line by line.
-use Rattle.std.specs.Prelude.{ℕ, ◌+◌, List, [], ◌∷◌, ◌++◌, length, replicate, Option, Some, None, Result, Ok, Err, Bool, true, false, nat_lt, nat_le, if◌then◌else◌}
+use Rattle.std.specs.Prelude.{ℕ, ◌+◌, List, [], ◌∷◌, ◌++◌, length, replicate, Option, Some, None, Result, Ok, Err, Bool, true, false, not, nat_lt, nat_le, if◌then◌else◌}
 use Rattle.limits.specs.declared.TheConstants.{FILE_MOST, LINES_MOST, SESSIONS_MOST, TREE_MOST}
 use Rattle.command_text.specs.Content.{content_length, content_bytes}
 use Rattle.command_text.specs.declared.content.Part.{Part}
@@ -28,10 +28,10 @@ use Rattle.trace_replay.specs.declared.stage.Stage.TheVariants as stage
 use Rattle.trace_ends.specs.declared.adjusting.Adjustment.TheVariants as adjustment
 use Rattle.trace_replay.specs.declared.turn.Turn.{Turn}
 use Rattle.trace_replay.specs.declared.turn.Turn.TheVariants as turn
-use Rattle.trace_ends.specs.Core.{Core, Event.Joins, Event.Does, Event.Settles, Event.Cuts, Event.Hangs}
-use Rattle.trace_ends.specs.Session.{Seat, new_seat, may_warm}
+use Rattle.trace_ends.specs.Core.{Core, Event.Joins, Event.Does, Event.Settles, Event.Cuts, Event.Hangs, Event.RawJoins}
+use Rattle.trace_ends.specs.Session.{Seat, Session, new_seat, may_warm, is_raw}
 use Rattle.trace_ends.specs.Numbers.{numbered}
-use Rattle.trace_replay.specs.World.{World, start, happened, adjusts}
+use Rattle.trace_replay.specs.World.{World, start, happened, adjusts, raw_put}
 use Rattle.trace_replay.specs.Delivery.{up_some, down_some, up_length, down_length, passes}
 use Rattle.trace_ends.specs.Queue.{count_of}
 
@@ -157,16 +157,32 @@ adjust_asks k (line.Evict c file) = asks_if (is_there (numbered k.seats c)) (tur
 adjust_asks k (line.Warm c content) = warm_asks c content (numbered k.seats c)
 adjust_asks k _ = Err Grammar
 
--- An event names a client and a session that are there.
+-- a session is made that is no client's, where a further one can stand
+abbrev pub raw_joins_within : (has_room : Bool) → Result Turn LineFault
+raw_joins_within true = Ok turn.RawJoin
+raw_joins_within false = Err (Limit limit.Sessions)
+
+-- a session that was made, and is a client's, or is none's
+abbrev pub is_owned_at : Option Session → Bool
+is_owned_at None = false
+is_owned_at (Some x) = not (is_raw x)
+
+abbrev pub is_raw_at : Option Session → Bool
+is_raw_at None = false
+is_raw_at (Some x) = is_raw x
+
+-- An event names a client and a session that are there. Nothing comes down a session that is no client's.
 abbrev pub event_asks : Core → Line → Result Turn LineFault
 event_asks k (line.Join c r s) = joins_if (length k.server.sessions) c (numbered k.seats c)
 event_asks k (line.Do c r command) = asks_if (is_there (numbered k.seats c)) (turn.Do c r command)
 event_asks k (line.Up n a s) = asks_if (is_there (numbered k.sessions n)) (turn.Up n a s)
-event_asks k (line.Down n a r) = asks_if (is_there (numbered k.sessions n)) (turn.Down n a r)
+event_asks k (line.Down n a r) = asks_if (is_owned_at (numbered k.sessions n)) (turn.Down n a r)
+event_asks k (line.RawJoin s) = raw_joins_within (nat_lt (length k.server.sessions) sessions_most)
+event_asks k (line.Raw n bytes) = asks_if (is_raw_at (numbered k.sessions n)) (turn.Raw n bytes)
 event_asks k (line.Settle s) = Ok (turn.Settle s)
 event_asks k (line.Cut c r) = asks_if (is_there (numbered k.seats c)) (turn.Cut c)
 event_asks k (line.Hang n s) = asks_if (is_there (numbered k.sessions n)) (turn.Hang n)
-event_asks k (line.Pass n rounds s r) = asks_if (is_there (numbered k.sessions n)) (turn.Pass n rounds s r)
+event_asks k (line.Pass n rounds s r) = asks_if (is_owned_at (numbered k.sessions n)) (turn.Pass n rounds s r)
 event_asks k l = adjust_asks k l
 
 -- First comes the header, then the files, and then the events.
@@ -217,6 +233,8 @@ turned w (turn.Down n a now) = down_some (at_events w) n (count_of a (down_lengt
 turned w (turn.Settle now) = happened (at_events w) (Settles now)
 turned w (turn.Cut c) = happened (at_events w) (Cuts c)
 turned w (turn.Hang n) = happened (at_events w) (Hangs n)
+turned w turn.RawJoin = happened (at_events w) RawJoins
+turned w (turn.Raw n bytes) = raw_put (at_events w) n bytes
 turned w (turn.Pass n k server at) = passes k (at_events w) n server at
 turned w (turn.Adjust a) = adjusts (at_events w) a
 

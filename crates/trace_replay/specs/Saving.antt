@@ -36,7 +36,7 @@ use Rattle.trace_ends.specs.Ops.{no_traffic}
 use Rattle.trace_ends.specs.Session.{Seat}
 use Rattle.trace_ends.specs.Core.{Event, Event.Does, Event.Serves, Event.Hears, server_waiting, happens}
 use Rattle.trace_ends.specs.Numbers.{numbered}
-use Rattle.trace_replay.specs.Trail.{Moment, step_of, client_of, taken_by}
+use Rattle.trace_replay.specs.Trail.{Moment, can_hang, step_of, client_of, taken_by}
 use Rattle.trace_replay.specs.Traffic.{is_in}
 use Rattle.trace_replay.specs.Book.{Book, version_at}
 use Rattle.trace_replay.specs.OwnCalls.{TakesCall}
@@ -49,8 +49,9 @@ name_call xid a = message.Call xid (body.Lb (lb.CondWrite a))
 abbrev pub name_told : (xid : ℕ) → Answer Unit Unit → Message
 name_told xid r = message.Answer xid (body.Lb (lb.CondWriteAnswer r))
 
--- a moment at which the server takes the CONDWRITE of this number on a session, and the temporary file has room for its bytes
+-- a moment at which the server takes the CONDWRITE of this number on a session, which stands, and the temporary file has room for its bytes
 pub record TakesName (m : Moment) (session xid : ℕ) (a : CondPiece) : Type 0 where
+  pub stands : can_hang (numbered m.before.sessions session) ≡ true
   pub now : ℕ
   pub bytes : List ℕ
   pub event_is : m.event ≡ Serves session now bytes

@@ -27,6 +27,8 @@ holds pairs = record {
     lbfs = 1;
     ops = [];
     entries = [];
+    came = [];
+    raws = [];
   };
   event = Settles 0;
 }

@@ -26,7 +26,7 @@ use Rattle.tree_calls.specs.declared.asked.Asked.TheVariants as asked
 use Rattle.trace_replay.specs.declared.fault.Refused.{Refused}
 use Rattle.trace_replay.specs.declared.fault.TraceError.{TraceError}
 use Rattle.trace_replay.specs.declared.fault.TraceError.TheVariants as errors
-use Rattle.trace_ends.specs.Session.{Seat, Session}
+use Rattle.trace_ends.specs.Session.{Seat, Session, is_raw}
 use Rattle.trace_ends.specs.Numbers.{numbered}
 use Rattle.trace_ends.specs.Core.{server_waits}
 use Rattle.trace_replay.specs.World.{World, history_of}
@@ -75,9 +75,13 @@ pub record HoldsValue (book : Book) (w : World) (c : FileChange) : Type 0 where
   pub owner : session.owner ≡ op.client
   pub closing : session.closing ≡ Some place
 
+-- or it came on a session that is no client's, which stands
+abbrev pub IsRawChange : World → FileChange → Type 0
+IsRawChange w c = (x : Session) × (numbered w.core.sessions c.session ≡ Some x) × (is_raw x ≡ true) × (x.hung ≡ false)
+
 -- so has each, and no two are of one session
 pub record HoldsValues (book : Book) (w : World) : Type 0 where
-  pub values : (i : ℕ) (c : FileChange) → slice_get w.core.server.waiting i ≡ Some c → HoldsValue book w c
+  pub values : (i : ℕ) (c : FileChange) → slice_get w.core.server.waiting i ≡ Some c → HoldsValue book w c ⊎ IsRawChange w c
   pub single : (i j : ℕ) (c d : FileChange) → slice_get w.core.server.waiting i ≡ Some c → slice_get w.core.server.waiting j ≡ Some d → c.session ≡ d.session → i ≡ j
 
 -- the server's tree has of each file what the history says that it is, if it is there, and the version
@@ -164,14 +168,18 @@ pub record HoldsQueues (w : World) (number : ℕ) (q : Wire) : Type 0 where
   pub lost : session.hung ≡ true → ups ≡ []
   pub shut : session.cut ≡ true → downs ≡ []
 
+-- or the session is no client's: nothing is on its way down, and what comes up is anything
+abbrev pub IsRawWire : World → (number : ℕ) → Wire → Type 0
+IsRawWire w number q = (x : Session) × (numbered w.core.sessions number ≡ Some x) × (is_raw x ≡ true) × (q.down ≡ [])
+
 abbrev pub HoldsMessages : World → Type 0
-HoldsMessages w = (number : ℕ) (q : Wire) → numbered w.wires number ≡ Some q → HoldsQueues w number q
+HoldsMessages w = (number : ℕ) (q : Wire) → numbered w.wires number ≡ Some q → HoldsQueues w number q ⊎ IsRawWire w number q
 
 -- A replayed history tells what the trace says, moment by moment. Each open in it gave the whole content that its file had at one moment within it, and each
 -- close that ended Closed replaced its file wholly by its local content at one moment within it, wherever no two different byte lists
 -- that were hashed in the run share a digest. An operation that is left alone has ended, and bytes that the other end was found to have were
--- not sent. A change waits no longer than the leases that hold it up, and an open under a lease that is noted asks nobody. What the server holds is what the history says, and what is on its way between the two ends are whole messages, which their ends
--- take.
+-- not sent. A change waits no longer than the leases that hold it up, and an open under a lease that is noted asks nobody. What the server holds is what the history says, and what is on its way
+-- between a client and the server are whole messages, which their ends take. Sessions that are no client's may send anything: what they change is in the history.
 pub record IsKeptPromise (input : List ℕ) (w : World) : Type 0 where
   pub chained : IsChained input (moments input) w
   pub faithful : IsFaithful input (book_of w (moments input))

@@ -24,8 +24,8 @@ use Rattle.server_core.specs.Hashed.{server_hashed}
 use Rattle.register_model.specs.declared.op.Opening.{Opening}
 use Rattle.trace_replay.specs.declared.turn.Turn.{Turn}
 use Rattle.trace_replay.specs.declared.turn.Turn.TheVariants as turn
-use Rattle.trace_ends.specs.Core.{Core, Event, Event.Joins, Event.Does, Event.Serves, Event.Hears, Event.Settles, Event.Cuts, Event.Hangs, server_waiting, happens}
-use Rattle.trace_ends.specs.Session.{Seat, Session, is_newest}
+use Rattle.trace_ends.specs.Core.{Core, Event, Event.Joins, Event.Does, Event.Serves, Event.Hears, Event.Settles, Event.Cuts, Event.Hangs, Event.RawJoins, server_waiting, happens}
+use Rattle.trace_ends.specs.Session.{Seat, Session, is_newest, is_raw}
 use Rattle.trace_ends.specs.Numbers.{numbered}
 use Rattle.trace_replay.specs.World.{World, start, happened}
 use Rattle.trace_ends.specs.Wires.{Wire}
@@ -79,6 +79,7 @@ turn_moments w (turn.Down n a now) = down_moments (at_events w) n (count_of a (d
 turn_moments w (turn.Settle now) = moments_of (at_events w) (Settles now ∷ [])
 turn_moments w (turn.Cut c) = moments_of (at_events w) (Cuts c ∷ [])
 turn_moments w (turn.Hang n) = moments_of (at_events w) (Hangs n ∷ [])
+turn_moments w turn.RawJoin = moments_of (at_events w) (RawJoins ∷ [])
 turn_moments w (turn.Pass n k server at) = passes_moments k (at_events w) n server at
 turn_moments w _ = []
 
@@ -119,6 +120,7 @@ event_by (Some (line.Do client reading command)) = Does client reading command �
 event_by (Some (line.Settle server)) = Settles server ∷ []
 event_by (Some (line.Cut client reading)) = Cuts client ∷ []
 event_by (Some (line.Hang number server)) = Hangs number ∷ []
+event_by (Some (line.RawJoin server)) = RawJoins ∷ []
 event_by _ = []
 
 abbrev pub events_of : List (List ℕ) → List Event
@@ -329,6 +331,11 @@ abbrev pub heard_hashed_if : State → (now : ℕ) → List ℕ → (is_newest :
 heard_hashed_if c now bytes true = client_hashed c (parse_of (waiting_of c) bytes) now
 heard_hashed_if c now bytes false = []
 
+-- What is hashed for a session that is no client's isn't among them: nothing that is promised of clients rests on it.
+abbrev pub session_hashed : Core → (number : ℕ) → List ℕ → Option Session → List (List ℕ)
+session_hashed k number bytes None = []
+session_hashed k number bytes (Some x) = elim (is_raw x) [ true ↦ [] | false ↦ served_hashed k number (parse_of server_waiting bytes) ]
+
 -- what comes on a session that its client has left is dropped, and nobody hashes it
 abbrev pub heard_hashed : (number now : ℕ) → List ℕ → Option Seat → List (List ℕ)
 heard_hashed number now bytes None = []
@@ -336,7 +343,7 @@ heard_hashed number now bytes (Some seat) = heard_hashed_if seat.client now byte
 
 -- the byte lists whose digests are sent or compared then, as names of chunks
 abbrev pub hashed_by : Core → Event → List (List ℕ)
-hashed_by k (Serves number now bytes) = served_hashed k number (parse_of server_waiting bytes)
+hashed_by k (Serves number now bytes) = session_hashed k number bytes (numbered k.sessions number)
 hashed_by k (Hears number now bytes) = heard_hashed number now bytes (numbered k.seats (owner_in (numbered k.sessions number)))
 hashed_by k e = []
 
@@ -357,7 +364,7 @@ abbrev pub is_heard : Option Seat → (number : ℕ) → Bool
 is_heard None number = false
 is_heard (Some seat) number = is_newest seat.session number
 
--- a session that stands can hang, and one that hung can't again
+-- a session that stands can hang, and what comes on it is heard; one that hung can't again, and nothing is heard on it
 abbrev pub can_hang : Option Session → Bool
 can_hang None = false
 can_hang (Some x) = not x.hung
@@ -366,11 +373,12 @@ abbrev pub step_if : Bool → ℕ
 step_if true = 1
 step_if false = 0
 
--- how many steps an event is: two where a client joins, one of the server and one of its own; none where nothing hangs or hears; else one
+-- how many steps an event is: two where a client joins, one of the server and one of its own; none where nothing hangs or hears, at either end; else one
 abbrev pub steps_by : Core → Event → ℕ
 steps_by k (Joins c) = 2
 steps_by k (Hears number now bytes) = step_if (is_heard (numbered k.seats (owner_in (numbered k.sessions number))) number)
 steps_by k (Hangs number) = step_if (can_hang (numbered k.sessions number))
+steps_by k (Serves number now bytes) = step_if (can_hang (numbered k.sessions number))
 steps_by k e = 1
 
 -- the steps are counted on, from one number to another: before each moment, those of the moments before it

@@ -209,6 +209,8 @@ holds linked = record {
   steps = 4;
   ops = [];
   entries = [];
+  came = [];
+  raws = [];
 }
 
 -- the values of the operations behind a close of it

@@ -27,6 +27,11 @@ abbrev pub is_warm : Line → Bool
 is_warm (line.Warm c content) = true
 is_warm l = false
 
+-- whether a line has a session send bytes that is no client's
+abbrev pub is_raw_line : Line → Bool
+is_raw_line (line.Raw session bytes) = true
+is_raw_line l = false
+
 -- whether a line has bytes of one way delivered
 abbrev pub is_delivery : Line → Bool
 is_delivery (line.Up session amount server) = true

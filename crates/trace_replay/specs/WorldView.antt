@@ -6,7 +6,7 @@ use Rattle.trace_replay.specs.declared.state.Event.{Event as Asked}
 use Rattle.trace_replay.specs.declared.state.Event.TheVariants as asked
 use Rattle.trace_replay.specs.declared.state.End.{End}
 use Rattle.trace_replay.specs.declared.state.End.TheVariants as ends
-use Rattle.trace_ends.specs.Core.{Event, Event.Joins, Event.Does, Event.Serves, Event.Hears, Event.Settles, Event.Cuts, Event.Hangs}
+use Rattle.trace_ends.specs.Core.{Event, Event.Joins, Event.Does, Event.Serves, Event.Hears, Event.Settles, Event.Cuts, Event.Hangs, Event.RawJoins}
 use Rattle.trace_ends.specs.View.{core_of}
 use Rattle.trace_replay.specs.World.{World}
 use Rattle.trace_replay.specs.Timed.{Times, Timed}
@@ -26,6 +26,7 @@ event_of (asked.Does c now command) = Does c now command
 event_of (asked.Settles now) = Settles now
 event_of (asked.Cuts c) = Cuts c
 event_of (asked.Hangs n) = Hangs n
+event_of asked.RawJoins = RawJoins
 
 -- an end takes a record of a session, at a reading of its clock
 abbrev pub taken_at : End → (session now : ℕ) → List ℕ → Event

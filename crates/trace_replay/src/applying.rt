@@ -112,6 +112,8 @@ impl WorldState {
             Turn::Settle(now) => self.happens(alloc, Event::Settles(now)),
             Turn::Cut(client) => self.happens(alloc, Event::Cuts(client)),
             Turn::Hang(session) => self.happens(alloc, Event::Hangs(session)),
+            Turn::RawJoin => self.happens(alloc, Event::RawJoins),
+            Turn::Raw { session, bytes } => self.raw_put(session, bytes),
             Turn::Adjust(adjustment) => self.adjusts(alloc, adjustment),
             Turn::Pass {
                 session,

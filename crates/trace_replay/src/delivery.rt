@@ -1,14 +1,16 @@
 //! Bytes that reach an end: each record that they complete is a step of that end.
 //! `specs/Delivery.antt` says what a delivery, a round and a pass make of a world.
 
-ghost use Rattle.std.specs.Prelude.{◌≡◌, ◌<◌, ◌^◌, map, OnOk};
+ghost use Rattle.std.specs.Prelude.{◌≡◌, ◌<◌, ◌^◌, ◌++◌, map, OnOk};
+ghost use Rattle.trace_ends.specs.Core.{Event.Serves};
 ghost use Rattle.trace_ends.specs.Numbers.{numbered};
-ghost use Rattle.trace_replay.specs.Delivery.{all_happened, up_some, down_some, up_all, down_all, up_length, down_length, is_still, round, passes};
+ghost use Rattle.trace_replay.specs.Delivery.{all_happened, spoilt_as, up_some, down_some, up_all, down_all, up_length, down_length, is_still, round, passes};
 ghost use Rattle.trace_ends.specs.Queue.{count_of};
 ghost use Rattle.trace_replay.specs.WorldView.{taken_at, world_of, IsEndBounded};
 
 use crate::state::{End, WorldState};
 use rpc_record::record::Record;
+use rpc_record::refusal::Refusal;
 use session_rules::numbers::place_of;
 use std::alloc::{AllocError, Global};
 use trace_text::line::Amount;
@@ -32,6 +34,26 @@ impl WorldState {
         Ok(())
     }
 
+    /// The server takes records of a session, in order, at a reading of its clock, and where none can
+    /// follow any more one of no bytes, which is no message.
+    fn takes_up(
+        &mut self,
+        alloc: Global,
+        session: u64,
+        now: u64,
+        records: &[Record],
+        spoilt: Option<Refusal>,
+    ) -> Result<(), AllocError>
+        requires { now < 2 ^ 63 }
+        ensures { OnOk result (world_of self.new ≡ all_happened (world_of self.old) (map (Serves session now) (records.now ++ spoilt_as spoilt))) }
+    {
+        self.takes_all(alloc, End::Server, session, now, records)?;
+        match spoilt {
+            Some(_) => self.takes(alloc, End::Server, session, now, &[]),
+            None => Ok(()),
+        }
+    }
+
     /// Bytes that are on their way up a session reach the server, at a reading of its clock.
     pub fn up_some(
         &mut self,
@@ -46,8 +68,10 @@ impl WorldState {
         let Some(place) = place_of(self.wires.len(), session) else {
             return Ok(());
         };
-        let records = self.wires[place].take_up(alloc, amount)?;
-        self.takes_all(alloc, End::Server, session, now, records.as_slice())
+        let wire = &mut self.wires[place];
+        let records = wire.take_up(alloc, amount)?;
+        let spoilt = wire.spoilt();
+        self.takes_up(alloc, session, now, records.as_slice(), spoilt)
     }
 
     /// Bytes that are on their way down a session reach its client, at a reading of that one's clock.

@@ -1,18 +1,22 @@
 //! The world's fields, and events in it: a step of the ends, and what it sends put on its way.
 //! `specs/World.antt` says what an event makes of a world.
 
-ghost use Rattle.std.specs.Prelude.{◌≡◌, IfOk, OnOk};
+ghost use Rattle.std.specs.Prelude.{◌≡◌, ◌++◌, map, Some, None, if◌then◌else◌, IfOk, OnOk};
+ghost use Rattle.register_model.specs.Raw.{op_of};
 ghost use Rattle.trace_ends.specs.Core.{happens};
-ghost use Rattle.trace_replay.specs.World.{start, routed, happened, adjusts, history_of};
+ghost use Rattle.trace_replay.specs.World.{start, routed, happened, adjusts, raw_put, history_of};
 ghost use Rattle.trace_ends.specs.View.{core_of, core_step_of};
 ghost use Rattle.trace_replay.specs.WorldView.{event_of, taken_at, world_of, IsEventBounded, IsEndBounded};
 
 use crate::opening::{OpeningFile, build_all};
-use crate::sending::down_put;
+use crate::sending::{down_put, raw_put_in};
 use crate::stage::Stage;
 use crate::wire_loss::lose;
 use command_text::command::Command;
+use lb_base::items::{Bytes, Items};
 use register_model::history::History;
+use register_model::op::Op;
+use register_model::raw::Raw;
 use session_rules::wire::Wire;
 use std::alloc::{AllocError, Global};
 use trace_ends::adjusting::{Adjustment, adjust};
@@ -62,6 +66,7 @@ pub enum Event {
     Settles(u64),
     Cuts(u64),
     Hangs(u64),
+    RawJoins,
 }
 
 /// The step of the ends in which this happens.
@@ -79,6 +84,7 @@ fn step_of(alloc: Global, core: &mut Core, event: Event) -> Result<CoreStep, All
         Event::Settles(now) => core.settles(alloc, now),
         Event::Cuts(client) => core.cuts(alloc, client),
         Event::Hangs(session) => core.hangs(alloc, session),
+        Event::RawJoins => core.raw_joins(alloc),
     }
 }
 
@@ -109,6 +115,27 @@ fn taken_by(
     }
 }
 
+/// The changes by sessions that are no client's, where there is such a session.
+fn raws_if(has_raw: bool, raws: Vec<Raw>) -> Option<Items<Raw>>
+    ensures { result ≡ (if has_raw then Some raws.items else None) }
+{
+    if has_raw {
+        Some(Items::from_vec(raws))
+    } else {
+        None
+    }
+}
+
+/// Puts the changes by sessions that are no client's behind the operations of clients.
+fn put_raws(alloc: Global, ops: &mut Vec<Op>, raws: &[Raw]) -> Result<(), AllocError>
+    ensures { OnOk result (ops.new.items ≡ ops.old.items ++ map op_of raws.now) }
+{
+    for raw in raws {
+        ops.push(raw.op(alloc)?)?;
+    }
+    Ok(())
+}
+
 impl WorldState {
     /// The world before the first line. The one error is running out of memory.
     pub fn new(alloc: Global) -> Result<WorldState, AllocError>
@@ -137,10 +164,25 @@ impl WorldState {
             wires,
         } = self;
         drop(wires);
-        let lbfs = core.lbfs;
-        let (ops, steps) = core.history();
+        let (lbfs, has_raw) = (core.lbfs, core.has_raw());
+        let (mut ops, raws, steps) = core.history();
         let opening = build_all(alloc, opening.as_slice())?;
-        Ok(History::new(lbfs, opening, ops, steps))
+        put_raws(alloc, &mut ops, raws.as_slice())?;
+        let (ops, raws) = (Items::from_vec(ops), raws_if(has_raw, raws));
+        Ok(History::new(lbfs, opening, ops, raws, steps))
+    }
+
+    /// A session that is no client's sends bytes, which vanish where the server has seen it lost. The one
+    /// error is running out of memory.
+    pub fn raw_put(&mut self, session: u64, bytes: Bytes) -> Result<(), AllocError>
+        ensures { OnOk result (world_of self.new ≡ raw_put (world_of self.old) session bytes) }
+    {
+        raw_put_in(
+            self.core.sessions.as_slice(),
+            &mut self.wires,
+            session,
+            bytes,
+        )
     }
 
     /// What an event dropped is gone, and what it sent is on its way.

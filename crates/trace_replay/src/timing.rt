@@ -82,6 +82,7 @@ pub fn timing_of(sessions: &Vec<Session>, line: &Line) -> Timing
         Line::Up { server, .. } | Line::Settle { server } | Line::Hang { server, .. } => {
             Timing::Reads(Reading::Server(*server))
         }
+        Line::RawJoin { server } => Timing::Reads(Reading::Server(*server)),
         Line::Down { session, at, .. } => down_timing(*at, owner_of(sessions, *session)),
         Line::Pass {
             session,
@@ -92,7 +93,7 @@ pub fn timing_of(sessions: &Vec<Session>, line: &Line) -> Timing
         Line::Skipped | Line::Version(_) | Line::Clients(_) => Timing::Nothing,
         Line::Dir(_) | Line::File { .. } => Timing::Nothing,
         Line::Forge { .. } | Line::Clear(_) | Line::Evict { .. } => Timing::Nothing,
-        Line::Warm { .. } => Timing::Nothing,
+        Line::Warm { .. } | Line::Raw { .. } => Timing::Nothing,
     }
 }
 

@@ -4,8 +4,8 @@ ghost use Rattle.std.specs.Prelude.{◌≡◌, true, false, nat_lt, nat_le, IfOk
 ghost use Rattle.trace_text.specs.Reading.{IsTimely};
 ghost use Rattle.trace_ends.specs.Numbers.{numbered};
 ghost use Rattle.trace_replay.specs.World.{World};
-ghost use Rattle.trace_replay.specs.Run.{is_there, has_index, asks_if, place_for, file_asks, directory_asks, joins_if, warm_asks, adjust_asks, event_asks, asks_at, asks, asks_within, asked, in_header};
-ghost use Rattle.trace_replay.specs.Turns.{IsTurnBounded, is_delivery, is_do, is_warm, stage_after};
+ghost use Rattle.trace_replay.specs.Run.{sessions_most, raw_joins_within, is_owned_at, is_raw_at, is_there, has_index, asks_if, place_for, file_asks, directory_asks, joins_if, warm_asks, adjust_asks, event_asks, asks_at, asks, asks_within, asked, in_header};
+ghost use Rattle.trace_replay.specs.Turns.{IsTurnBounded, is_delivery, is_do, is_raw_line, is_warm, stage_after};
 ghost use Rattle.trace_ends.specs.View.{core_of};
 ghost use Rattle.trace_replay.specs.WorldView.{world_of};
 ghost use Rattle.trace_replay.specs.declared.stage.Stage.TheVariants as stage;
@@ -18,7 +18,7 @@ use chunk_index::place::Place;
 use command_text::command::Command;
 use command_text::content::{Content, length_within};
 use command_text::path::Spot;
-use lb_base::items::Name;
+use lb_base::items::{Bytes, Name};
 use limits::{FILE_MOST, LINES_MOST, SESSIONS_MOST, TREE_MOST};
 use session_rules::numbers::place_of;
 use trace_ends::adjusting::Adjustment;
@@ -78,6 +78,13 @@ pub enum Turn {
     Cut(u64),
     /// The server sees the session's connection lost.
     Hang(u64),
+    /// A session is made that is no client's.
+    RawJoin,
+    /// Such a session sends these bytes.
+    Raw {
+        session: u64,
+        bytes: Bytes,
+    },
     /// So many rounds of the session, at a reading of the server's clock and one of the client's.
     Pass {
         session: u64,
@@ -188,6 +195,16 @@ fn has_client(core: &Core, client: u64) -> bool
     place_of(core.seats.len(), client).is_some()
 }
 
+/// A session that is no client's is made, where so many stand and a further one can.
+fn raw_joins_within(standing: usize) -> Result<Turn, LineFault>
+    ensures { result ≡ raw_joins_within (nat_lt standing sessions_most) }
+{
+    if standing >= SESSIONS_MOST {
+        return Err(LineFault::Limit(Limit::Sessions));
+    }
+    Ok(Turn::RawJoin)
+}
+
 /// What a client that is there asks for.
 fn by_client(core: &Core, client: u64, turn: Turn) -> Result<Turn, LineFault>
     ensures { result ≡ asks_if (is_there (numbered (core_of core.now).seats client)) turn }
@@ -201,6 +218,26 @@ fn of_session(core: &Core, session: u64, turn: Turn) -> Result<Turn, LineFault>
 {
     let is_made = place_of(core.sessions.len(), session).is_some();
     asks_if(is_made, turn)
+}
+
+/// What is asked of a session that was made and is a client's.
+fn of_owned(core: &Core, session: u64, turn: Turn) -> Result<Turn, LineFault>
+    ensures { result ≡ asks_if (is_owned_at (numbered (core_of core.now).sessions session)) turn }
+{
+    match place_of(core.sessions.len(), session) {
+        Some(place) => asks_if(!core.sessions[place].is_raw(), turn),
+        None => asks_if(false, turn),
+    }
+}
+
+/// What a session is asked for that is no client's: it sends these bytes.
+fn raw_asks(core: &Core, session: u64, bytes: Bytes) -> Result<Turn, LineFault>
+    ensures { result ≡ asks_if (is_raw_at (numbered (core_of core.now).sessions session)) (turn.Raw session bytes) }
+{
+    let Some(place) = place_of(core.sessions.len(), session) else {
+        return Err(LineFault::Grammar);
+    };
+    asks_if(core.sessions[place].is_raw(), Turn::Raw { session, bytes })
 }
 
 /// Whether there is such an index: the server's, or that of a client who is there.
@@ -295,7 +332,7 @@ fn delivery_asks(core: &Core, line: &Line) -> Result<Turn, LineFault>
             at,
         } => {
             let (session, amount, now) = (*session, *amount, *at);
-            of_session(
+            of_owned(
                 core,
                 session,
                 Turn::Down {
@@ -309,10 +346,11 @@ fn delivery_asks(core: &Core, line: &Line) -> Result<Turn, LineFault>
     }
 }
 
-/// What an event asks for that has no command and no content.
+/// What an event asks for that has no command, no content and no bytes.
 fn plain_asks(core: &Core, line: &Line) -> Result<Turn, LineFault>
     requires command { is_do line.now ≡ false }
     requires warm { is_warm line.now ≡ false }
+    requires raw { is_raw_line line.now ≡ false }
     ensures { result ≡ event_asks (core_of core.now) line.now }
 {
     match line {
@@ -324,7 +362,7 @@ fn plain_asks(core: &Core, line: &Line) -> Result<Turn, LineFault>
             at,
         } => {
             let (session, rounds, server, at) = (*session, *rounds, *server, *at);
-            of_session(
+            of_owned(
                 core,
                 session,
                 Turn::Pass {
@@ -336,10 +374,11 @@ fn plain_asks(core: &Core, line: &Line) -> Result<Turn, LineFault>
             )
         }
         Line::Join { client, .. } => joins_if(core.server.standing(), *client, &core.seats),
+        Line::RawJoin { .. } => raw_joins_within(core.server.standing()),
         Line::Settle { server } => Ok(Turn::Settle(*server)),
         Line::Cut { client, .. } => by_client(core, *client, Turn::Cut(*client)),
         Line::Hang { session, .. } => of_session(core, *session, Turn::Hang(*session)),
-        Line::Do { .. } | Line::Warm { .. } => Err(LineFault::Grammar),
+        Line::Do { .. } | Line::Warm { .. } | Line::Raw { .. } => Err(LineFault::Grammar),
         _ => adjust_asks(core, line),
     }
 }
@@ -363,6 +402,7 @@ fn event_asks(core: &Core, line: Line) -> Result<Turn, LineFault>
             },
         ),
         Line::Warm { client, content } => warm_asks(core, client, content),
+        Line::Raw { session, bytes } => raw_asks(core, session, bytes),
         line => {
             let asked = plain_asks(core, &line);
             drop(line);
