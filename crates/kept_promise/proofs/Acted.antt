@@ -75,7 +75,7 @@ leads_acted book k qs n x q ts seat c acts place ops asks kept at is owner here 
     let core = cut_core book more k k.server seats k.sessions ops (ap (λ (s : ℕ). s + 1) kept.steps) refl kept.entries in
     let ops_now : ops_with k.ops seat.place c x.taken (k.steps + 1) acts ≡ ops = ap (λ (l : List Op). ops_with l seat.place c x.taken (k.steps + 1) acts) (sym kept.ops) ∙ ap (λ (s : ℕ). ops_with book.ops seat.place c x.taken (s + 1) acts) (sym kept.steps) ∙ ops_is in
     subst (Leads book (rest_down qs n q ts)) (sym (acted_is k x.owner n x seat c acts place ops asks at here place_is ops_now send_is)) (record {
-      sends = record { replies = []; replies_fit = tt; asks = asks; up_is = refl; recalls = []; recalls_fit = tt; tolds = []; down_is = refl };
+      sends = record { replies = []; replies_fit = tt; asks = asks; up_is = refl; strays = []; strays_cut = tt; recalls = []; recalls_fit = tt; tolds = []; down_is = refl };
       more = more;
       moments = refl;
       opening = refl;

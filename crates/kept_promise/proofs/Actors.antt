@@ -11,7 +11,7 @@ use Rattle.kept_promise.proofs.Fits.{FitLaws}
 use Rattle.kept_promise.proofs.Moves.{expected}
 use Rattle.kept_promise.proofs.Rights.{IsRight}
 use Rattle.kept_promise.proofs.Facts.{IsKept, IsSession, IsMatched, is_naming}
-use Rattle.kept_promise.proofs.Turns.{also_numbered}
+use Rattle.kept_promise.proofs.Turns.{also_numbered, owned_down, owned_up, has_owner}
 use Rattle.kept_promise.proofs.RunsCarried.{FindsAsk, FindsTold, Finds}
 use Rattle.kept_promise.proofs.Counted.{IsActor}
 use Rattle.kept_promise.proofs.Statements.{ToldFits, CallFits}
@@ -136,7 +136,7 @@ heard_at book k qs n now bytes mid kept f = by (also_numbered qs k.sessions n f.
 
     by : (x : Session) × (numbered k.sessions n ≡ Some x) → Heard k qs n now bytes mid
     by x =
-        let h = kept.sessions n x.0 f.0 x.1 f.3 in
+        let h = kept.sessions n x.0 f.0 x.1 f.3 (owned_down kept n x.0 f.0 x.1 f.3 f.1 f.2 f.4) in
         let u = uncut x.0 h x.0.cut refl in
         record {
           session = x.0;
@@ -154,10 +154,13 @@ heard_at book k qs n now bytes mid kept f = by (also_numbered qs k.sessions n f.
           hears_is = ap (hears k n now bytes) x.1 ∙ ap (hears_at k n x.0.owner now bytes) h.owner ∙ ap (hears_if k x.0.owner now h.seat bytes) (newest_is h.seat.session n (h.here u).0);
         }
 
+abbrev pub session_heard : (book : Book) (k : Core) (qs : List Queue) (n now : ℕ) (bytes : List ℕ) (mid : List Queue) → IsKept book k qs → (h : Heard k qs n now bytes mid) → IsSession book k.seats k.server n h.session h.queue
+session_heard book k qs n now bytes mid kept h = kept.sessions n h.session h.queue h.at h.queue_is (has_owner k.seats h.session h.seat h.owner)
+
 -- it is read as itself
 pub heard_reads : FitLaws → (book : Book) (k : Core) (qs : List Queue) (n now : ℕ) (bytes : List ℕ) (mid : List Queue) → IsKept book k qs → (h : Heard k qs n now bytes mid) → parse_of (client.waiting_of h.seat.client) bytes ≡ Ok (told_message h.told)
 heard_reads laws book k qs n now bytes mid kept h =
-    let s = kept.sessions n h.session h.queue h.at h.queue_is in
+    let s = session_heard book k qs n now bytes mid kept h in
     let fits = subst (λ (v : ℕ). ToldFits v h.told) (sym (kept.seats h.session.owner s.seat s.owner).speaks) (subst (AllTolds (ToldFits book.lbfs)) h.first s.downs_fit).0 in
     let same : s.seat ≡ h.seat = some_is s.seat h.seat (sym s.owner ∙ h.owner) in
     ap (λ (b : List ℕ). parse_of (client.waiting_of h.seat.client) b) h.bytes_is
@@ -180,7 +183,7 @@ heard_gives laws book k qs n now bytes mid kept h = ap (given_from n bytes) h.ow
 pub serves_fits : (book : Book) (k : Core) (qs : List Queue) (n now : ℕ) (bytes : List ℕ) (mid : List Queue) → IsKept book k qs → (f : FindsAsk qs n bytes mid) → CallFits f.1.lbfs f.1.xid f.1.call
 serves_fits book k qs n now bytes mid kept f =
     let x = also_numbered qs k.sessions n f.0 (sym kept.made.1) f.3 in
-    let s = kept.sessions n x.0 f.0 x.1 f.3 in
+    let s = kept.sessions n x.0 f.0 x.1 f.3 (owned_up kept n x.0 f.0 x.1 f.3 f.1 f.2 f.4) in
     (subst (AllAsks (λ a. CallFits a.lbfs a.xid a.call)) f.4 s.ups_fit).0
 
 -- a call is expected whatever answers the server waits for
@@ -203,4 +206,5 @@ serves_read_plain laws book k qs n now bytes mid kept f =
 -- the session on which something comes to the server
 pub session_served : (k : Core) (qs : List Queue) (n now : ℕ) (bytes : List ℕ) (mid : List Queue) → length qs ≡ length k.sessions → Finds k qs (Serves n now bytes) mid → (x : Session) × (numbered k.sessions n ≡ Some x)
 session_served k qs n now bytes mid made (inl f) = also_numbered qs k.sessions n f.0 (sym made) f.3
-session_served k qs n now bytes mid made (inr f) = (f.session, f.at)
+session_served k qs n now bytes mid made (inr (inl f)) = (f.session, f.at)
+session_served k qs n now bytes mid made (inr (inr f)) = (f.0, f.1)

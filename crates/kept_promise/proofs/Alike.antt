@@ -17,7 +17,7 @@ use Rattle.trace_text.specs.declared.line.Who.TheVariants as who
 use Rattle.trace_ends.specs.declared.adjusting.Adjustment.{Adjustment}
 use Rattle.trace_ends.specs.declared.adjusting.Adjustment.TheVariants as adjustment
 use Rattle.trace_ends.specs.Core.{adjusted, with_client}
-use Rattle.kept_promise.proofs.Common.{Contains, Contains-push_cases, in_header, ended, run, run_from, content_bytes, stands, at, makes_change, lines_of, line_of, Line, LineFault, Turn, Event, Event.Joins, Event.Does, Event.Settles, Event.Cuts, Event.Hangs, File, FileChange, Core, Seat, Session, numbered, does, hears, joins, settles, cuts, hangs_if, hangs, happens, World, Wire, start, happened, all_happened, up_taken, up_events, up_at, up_length, up_all, down_taken, down_events, down_at, down_length, round, is_still, passes, asked, asked_by, at_events, count_of, turned, Moment, moments_of, up_moments_at, down_moments_at, round_moments, passes_moments, turn_moments, moments_from, moments, Wanted, Tree, step_of}
+use Rattle.kept_promise.proofs.Common.{Contains, Contains-push_cases, in_header, ended, run, run_from, content_bytes, stands, at, makes_change, lines_of, line_of, Line, LineFault, Turn, Event, Event.Joins, Event.Does, Event.Settles, Event.Cuts, Event.Hangs, File, FileChange, Core, Seat, Session, numbered, does, hears, joins, settles, cuts, hangs_if, hangs, happens, World, Wire, start, happened, all_happened, up_taken, up_events, up_at, up_length, up_all, down_taken, down_events, down_at, down_length, round, is_still, passes, asked, asked_by, at_events, count_of, turned, Moment, moments_of, up_moments_at, down_moments_at, round_moments, passes_moments, turn_moments, moments_from, moments, Wanted, Tree, step_of, Event.RawJoins}
 use Rattle.kept_promise.proofs.Lists.{some_is}
 use Rattle.kept_promise.proofs.Rights.{AreAlike}
 use Rattle.server_law.proofs.lemmas.Trees.{IsGiven, IsSince, IsLater, later_join, Keeps, keeps_same, file_below}
@@ -30,6 +30,7 @@ use Rattle.kept_promise.proofs.TreeNameCalls.{commits_dirs, settles_dirs}
 use Rattle.kept_promise.proofs.RunsResults.{moments_by, ran_by, no_world, ended_is}
 use Rattle.kept_promise.proofs.RunsLines.{is_early, Allows, allowed, line_fits}
 use Rattle.kept_promise.proofs.Happens.{what_happens}
+use Rattle.trace_replay.specs.World.{raw_put}
 
 -- ---- the tree, and what becomes of it
 
@@ -65,11 +66,14 @@ happens_turn k e = what_happens k e (λ t. Turns k t.core) (record {
   joins = λ c seat is. keeps_same (tree k);
   refuses = λ c seat is. keeps_same (tree k);
   does = λ c now d seat is. keeps_same (tree k);
-  takes = λ n now bytes x m is at read. got_tree k.server n m now;
+  takes = λ n now bytes x m is at unhung read. got_tree k.server n m now;
   hears = λ n now bytes owner seat is. keeps_same (tree k);
   settles = λ now is. settles_turn k now;
   cuts = λ c seat is. keeps_same (tree k);
-  hangs = λ n x is at. subst (Keeps (tree k)) (sym (hangs_tree k n x)) (keeps_same (tree k));
+  hangs = λ n x is at unhung. subst (Keeps (tree k)) (sym (hangs_tree k n x)) (keeps_same (tree k));
+  closes = λ n now bytes x is at unhung. subst (Keeps (tree k)) (sym (hangs_tree k n x)) (keeps_same (tree k));
+  raw_joins = λ is. keeps_same (tree k);
+  raw_refuses = λ is. keeps_same (tree k);
 })
 
 -- ---- directories, and steps
@@ -82,11 +86,14 @@ happens_dirs k e = what_happens k e (λ t. KeepsDirs (tree k) (tree t.core)) (re
   joins = λ c seat is. dirs_same (tree k);
   refuses = λ c seat is. dirs_same (tree k);
   does = λ c now d seat is. dirs_same (tree k);
-  takes = λ n now bytes x m is at read. got_dirs k.server n m now;
+  takes = λ n now bytes x m is at unhung read. got_dirs k.server n m now;
   hears = λ n now bytes owner seat is. dirs_same (tree k);
   settles = λ now is. by now (ready_by k.server now);
   cuts = λ c seat is. dirs_same (tree k);
-  hangs = λ n x is at. subst (KeepsDirs (tree k)) (sym (hangs_tree k n x)) (dirs_same (tree k));
+  hangs = λ n x is at unhung. subst (KeepsDirs (tree k)) (sym (hangs_tree k n x)) (dirs_same (tree k));
+  closes = λ n now bytes x is at unhung. subst (KeepsDirs (tree k)) (sym (hangs_tree k n x)) (dirs_same (tree k));
+  raw_joins = λ is. dirs_same (tree k);
+  raw_refuses = λ is. dirs_same (tree k);
 })
   where
     made : (s : server.State) (c : FileChange) (a : Wanted) → s.tree ≡ tree k → KeepsDirs (tree k) (makes_change s c a).0.tree
@@ -108,11 +115,14 @@ happens_passes k e = what_happens k e (λ t. Passes k t.core) (record {
   joins = λ c seat is. inl (omega arith);
   refuses = λ c seat is. inl (omega arith);
   does = λ c now d seat is. inl (omega arith);
-  takes = λ n now bytes x m is at read. inl (omega arith);
+  takes = λ n now bytes x m is at unhung read. inl (omega arith);
   hears = λ n now bytes owner seat is. inl (omega arith);
   settles = λ now is. inl (omega arith);
   cuts = λ c seat is. inl (omega arith);
-  hangs = λ n x is at. inl (omega arith);
+  hangs = λ n x is at unhung. inl (omega arith);
+  closes = λ n now bytes x is at unhung. inl (omega arith);
+  raw_joins = λ is. inl (omega arith);
+  raw_refuses = λ is. inl (omega arith);
 })
 
 -- ---- the moments of a run so far
@@ -330,6 +340,8 @@ rises_next past w (turn.Down n a now) f h = (rises_down past (at_events w) n (co
 rises_next past w (turn.Settle now) f h = (rises_all past (at_events w) (Settles now ∷ []) (begins past w h)).0
 rises_next past w (turn.Cut c) f h = (rises_all past (at_events w) (Cuts c ∷ []) (begins past w h)).0
 rises_next past w (turn.Hang n) f h = (rises_all past (at_events w) (Hangs n ∷ []) (begins past w h)).0
+rises_next past w turn.RawJoin f h = (rises_all past (at_events w) (RawJoins ∷ []) (begins past w h)).0
+rises_next past w (turn.Raw n bytes) f h = (let g = (begins past w h).0 in rises_same past (raw_put (at_events w) n bytes) (record { given = g.given; before = g.before; older = g.older; alike = g.alike; counted = g.counted; steps = g.steps; same = g.same; later = g.later; dirs = g.dirs; early = g.early }))
 rises_next past w (turn.Pass n k server at) f h = (rises_passes k past (at_events w) n server at (begins past w h)).0
 rises_next past w (turn.Adjust a) f h =
     let g = (begins past w h).0 in

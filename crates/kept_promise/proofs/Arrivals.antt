@@ -1,9 +1,10 @@
 -- Messages that are on their way, in any number, are taken one after the other, wherever deliveries cut them.
-use Rattle.std.proofs.Common.{◌≡◌, ℕ, ◌≤◌, List, [], ◌∷◌, ◌++◌, length, take, drop, Option, None, refl, sym, ap, ◌∙◌, subst, arith, append_assoc, map}
+use Rattle.std.proofs.Common.{◌≡◌, ℕ, ◌≤◌, List, [], ◌∷◌, ◌++◌, length, take, drop, Option, None, refl, sym, ap, ◌∙◌, subst, arith, append_assoc, map, append-nil}
 use Rattle.rpc_record.specs.Records.{Begun}
 use Rattle.kept_promise.specs.Arrivals.{AreComing, UpsComeInOrder, DownsComeInOrder}
 use Rattle.kept_promise.proofs.Common.{take-append-drop, All-map, All, Fed, Refusal, Unread, Parts, Came, record_of, split, fed, stream, stream_comes, MessageFits, message_spell, Message, Event, Event.Serves, Event.Hears, bytes_of, all_happened, up_at, down_at, up_with, down_with}
 use Rattle.kept_promise.proofs.RunsDeliveries.{parted, fits_short, drop_front}
+use Rattle.trace_replay.specs.Delivery.{taken_up, spoilt_as}
 
 abbrev ended : Parts → Unread × Fed
 ended p = (record { rest = p.rest; spoilt = p.spoilt }, record { records = p.records; spoilt = p.spoilt })
@@ -17,6 +18,7 @@ record Takes (ms : List Message) (left : List ℕ) (r : Unread × Fed) : Type 0 
   behind : List Message
   all : ms ≡ front ++ behind
   records : r.1.records ≡ map message_spell front
+  taken : taken_up r.1 ≡ map message_spell front
   sound : r.0.spoilt ≡ None
   bytes : r.0.rest ++ left ≡ bytes_of behind
   partial : record_of r.0.rest ≡ Begun
@@ -24,7 +26,7 @@ record Takes (ms : List Message) (left : List ℕ) (r : Unread × Fed) : Type 0 
 takes_of : (ms : List Message) (left : List ℕ) (p : Parts) → Came (map message_spell ms) left p → Takes ms left (ended p)
 takes_of ms left p c =
     let s = parted message_spell ms p.records c.left c.records in
-    record { front = s.front; behind = s.behind; all = s.all; records = sym s.came_is; sound = c.sound; bytes = c.bytes ∙ ap stream (sym s.left_is); partial = c.partial }
+    record { front = s.front; behind = s.behind; all = s.all; records = sym s.came_is; taken = ap (λ (o : Option Refusal). p.records ++ spoilt_as o) c.sound ∙ append-nil p.records ∙ sym s.came_is; sound = c.sound; bytes = c.bytes ∙ ap stream (sym s.left_is); partial = c.partial }
 
 takes : (end : Unread) (queue : List ℕ) (count : ℕ) (ms : List Message) → All MessageFits ms → AreComing end queue ms → Takes ms (drop count queue) (fed end (take count queue))
 takes end queue count ms fits coming =
@@ -56,7 +58,7 @@ ups_come_in_order = λ w number q ms count now wire fits coming.
       taken = length t.front;
       within = subst (λ (z : List Message). length t.front ≤ length z) (sym t.all) (front_within t.front t.behind);
       end = end;
-      steps = ap (up_at w number count now) wire ∙ ap (all_happened (up_with w number q (drop count q.up) end)) (firsts (Serves number now) ms t.front t.behind (fed q.server_end (take count q.up)).1.records t.all t.records);
+      steps = ap (up_at w number count now) wire ∙ ap (all_happened (up_with w number q (drop count q.up) end)) (firsts (Serves number now) ms t.front t.behind (taken_up (fed q.server_end (take count q.up)).1) t.all t.taken);
       coming = (t.sound, t.bytes ∙ ap bytes_of (sym (ap (drop (length t.front)) t.all ∙ drop_front t.front t.behind)));
       partial = t.partial;
     }

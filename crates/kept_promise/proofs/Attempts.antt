@@ -1,7 +1,7 @@
 -- An attempt to fetch a file: its chunks, as they are told, and what another version makes of it.
 use Rattle.std.proofs.Common.{inl, inr, ◌≡◌, ℕ, zero, suc, ◌+◌, ◌<◌, ◌≤◌, List, [], ◌∷◌, ◌++◌, length, Option, Some, None, Bool, true, false, refl, sym, ap, ◌∙◌, subst, arith, map, take, drop}
 use Rattle.std.proofs.lemmas.List.{length-append}
-use Rattle.kept_promise.proofs.Common.{nat_tests, slice_get, nat_le, Contains, chunks_of, chunk_bytes, end_of, Chunk, Hashes, hashes_of, told_chunks, pair_of, is_end, fetch_of, with_hashes, slots_bytes, broken_of, with_pairs, Fetch, TakenCall, Stage, taken_at, Book, Or, value_at, version_at, hashed_of, Tried}
+use Rattle.kept_promise.proofs.Common.{nat_tests, slice_get, nat_le, Contains, chunks_of, chunk_bytes, end_of, Chunk, Hashes, hashes_of, told_chunks, pair_of, is_end, fetch_of, with_hashes, slots_bytes, broken_of, with_pairs, Fetch, TakenCall, Stage, taken_at, Book, Or, value_at, version_at, hashed_of, Tried, history}
 use Rattle.kept_promise.proofs.Lists.{some_is, nothing_there, take_whole, of_both}
 use Rattle.kept_promise.proofs.Marks.{marks, same_version}
 use Rattle.kept_promise.proofs.Growth.{seen_in, value_seen, version_seen, or_both, or_map}
@@ -34,15 +34,15 @@ take_count (suc i) (x ∷ xs) le = ap suc (take_count i xs (omega (arith, le)))
 pub one_content : (book : Book) (f p q : ℕ) (a b : List ℕ) → value_at book f p ≡ Some a → value_at book f q ≡ Some b → version_at book f p ≡ version_at book f q → a ≡ b
 one_content book f p q a b at is same = by (nat_le p q) refl
   where
-    counts : length (marks f p book.ops) ≡ length (marks f q book.ops)
+    counts : length (marks f p (history book).ops) ≡ length (marks f q (history book).ops)
     counts = let e = version_seen book f p in let g = version_seen book f q in omega (arith, e, g, same)
 
-    alike : marks f p book.ops ≡ marks f q book.ops → a ≡ b
+    alike : marks f p (history book).ops ≡ marks f q (history book).ops → a ≡ b
     alike e = some_is a b (sym at ∙ value_seen book f p ∙ ap (seen_in book.opening f) e ∙ sym (value_seen book f q) ∙ is)
 
     by : (t : Bool) → nat_le p q ≡ t → a ≡ b
-    by true le = alike (same_version f p q book.ops (grind (arith, nat_tests, le)) counts)
-    by false gt = alike (sym (same_version f q p book.ops (grind (arith, nat_tests, gt)) (sym counts)))
+    by true le = alike (same_version f p q (history book).ops (grind (arith, nat_tests, le)) counts)
+    by false gt = alike (sym (same_version f q p (history book).ops (grind (arith, nat_tests, gt)) (sym counts)))
 
 -- ---- its chunks are told
 

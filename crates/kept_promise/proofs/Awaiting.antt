@@ -16,14 +16,14 @@ use Rattle.trace_ends.specs.Core.{newest_entries, changed_file, server_got, sett
 use Rattle.trace_ends.specs.Ops.{pointed_at, pointed, point_if, has_point, begun, ops_after}
 use Rattle.trace_ends.specs.Session.{settled_ops, taken_of as session_taken}
 use Rattle.trace_replay.specs.Entries.{Awaited, GrowsBy, IsChangedBy}
-use Rattle.kept_promise.proofs.Common.{nat_tests, ◌==◌, ◌&&◌, ◌||◌, nat_le, cond, slice_get, slice_set, Contains, Contains-append_left, Contains-append_right, Contains-push, changes, parse_of, Message, WireFault, stands, makes_change, serves, serves_if, server_step, command_step, word_of, file_of, value_at_begin, ClientStep, Ended, Outcome, Op, Opening, Word, TakenCall, op_after, ops_with, Core, Session, Event, Event.Serves, Event.Settles, CoreStep, numbered, session_of, server_waiting, server_waits, happens, Moment, step_of, is_in, until, Book, Queue, Ask, ask_message, call_message, unless, Call, Call.Commit, Call.Walks, FileChange, Wanted, Entry}
+use Rattle.kept_promise.proofs.Common.{nat_tests, ◌==◌, ◌&&◌, ◌||◌, nat_le, cond, slice_get, slice_set, Contains, Contains-append_left, Contains-append_right, Contains-push, changes, parse_of, Message, WireFault, stands, makes_change, serves, serves_if, server_step, command_step, word_of, file_of, value_at_begin, ClientStep, Ended, Outcome, Op, Opening, Word, TakenCall, op_after, ops_with, Core, Session, Event, Event.Serves, Event.Settles, CoreStep, numbered, session_of, server_waiting, server_waits, happens, Moment, step_of, is_in, until, Book, Queue, Ask, ask_message, call_message, unless, Call, Call.Commit, Call.Walks, FileChange, Wanted, Entry, is_raw, serves_unless}
 use Rattle.kept_promise.proofs.TakenOut.{ready_waits}
 use Rattle.kept_promise.proofs.Lists.{some_is, nothing_there, of_appended, of_replaced, kept_appended, at_replaced, set_else, same_or_not, true_and_false, all_append, AllOf}
 use Rattle.kept_promise.proofs.Messages.{Job, job, AllAsks, CommitOf, IsCommit, WaitsFor as Pends}
 use Rattle.kept_promise.proofs.PathNames.{is_creating}
 use Rattle.kept_promise.proofs.Fits.{FitLaws}
 use Rattle.kept_promise.proofs.Facts.{IsKept, IsSession, change_number}
-use Rattle.kept_promise.proofs.Turns.{also_numbered}
+use Rattle.kept_promise.proofs.Turns.{also_numbered, raw_or_owned, owned_up, owned_closing, unhung_up}
 use Rattle.kept_promise.proofs.RunsCarried.{book_at, moment, FindsAsk, Step, Carried}
 use Rattle.kept_promise.proofs.SentUp.{asked_only}
 use Rattle.kept_promise.proofs.Counted.{AlikeUpTo, running_now}
@@ -31,11 +31,12 @@ use Rattle.kept_promise.proofs.Actors.{job_place, acts_alone, serves_read, serve
 use Rattle.kept_promise.proofs.OpsAfter.{OpsAfter, ops_after_event, stays_in}
 use Rattle.kept_promise.proofs.Tells.{waits_in}
 use Rattle.kept_promise.proofs.Leading.{queues_lost, ups_put, queues_after}
-use Rattle.kept_promise.proofs.LeftCommits.{QueuesHave, have_lost, have_ups, have_downs, taken_off, leaves, got_waits, no_asks}
+use Rattle.kept_promise.proofs.LeftCommits.{QueuesHave, have_lost, have_ups, have_downs, taken_off, leaves, got_waits, no_asks, IsLeft}
 use Rattle.kept_promise.proofs.ServesQuietly.{serves_still}
 use Rattle.kept_promise.proofs.Promised.{own_there}
 use Rattle.kept_promise.proofs.EntriesGrow.{Grows, GrewBy, ByEvent, event_grows, AllEntered, carried_entered, entered_event, grown_later, grown_now, settled_at}
 use Rattle.kept_promise.proofs.Happens.{what_happens}
+use Rattle.kept_promise.proofs.OwnersKept.{owned_before}
 
 -- ---- what is waited for
 
@@ -155,7 +156,7 @@ held_next fits all past rest opening k qs e mid after s n xid x q at h stepped g
 
 -- of each session that its client left: each call on its way that may change a file, and each change that waits, was waited for
 abbrev LeftAsk : (past : List Moment) → Core → (n : ℕ) → Ask → Type 0
-LeftAsk past k n a = (y : Session) → numbered k.sessions n ≡ Some y → y.cut ≡ true → change_number a.call ≡ 1 → Sender past k y n a.xid
+LeftAsk past k n a = (y : Session) → numbered k.sessions n ≡ Some y → IsLeft y → change_number a.call ≡ 1 → Sender past k y n a.xid
 
 abbrev LeftAsks : (past : List Moment) → Core → (n : ℕ) → Queue → Type 0
 LeftAsks past k n q = AllAsks (LeftAsk past k n) q.ups
@@ -171,7 +172,7 @@ record MadeBy (past : List Moment) (opening : List Opening) (k : Core) (o : Op) 
 pub record AllAwaited (all past : List Moment) (opening : List Opening) (k : Core) (qs : List Queue) : Type 0 where
   pub entered : AllEntered all past opening k qs
   ups : QueuesHave (LeftAsks past k) qs
-  waiting : (i : ℕ) (c : FileChange) (y : Session) → slice_get k.server.waiting i ≡ Some c → numbered k.sessions c.session ≡ Some y → y.cut ≡ true → Sender past k y c.session c.xid
+  waiting : (i : ℕ) (c : FileChange) (y : Session) → slice_get k.server.waiting i ≡ Some c → numbered k.sessions c.session ≡ Some y → IsLeft y → Sender past k y c.session c.xid
   made : (p q : ℕ) (o : Op) → slice_get k.ops p ≡ Some o → changes o.word ≡ true → o.point ≡ Some q → MadeBy past opening k o q
 
 -- a session that is cut now was there, or is cut in a step
@@ -182,11 +183,14 @@ moves k e = what_happens k e (λ t. (t.core.sessions ≡ k.sessions) ⊎ (k.step
   joins = λ c seat is. inr (omega arith);
   refuses = λ c seat is. inl refl;
   does = λ c now d seat is. inr (omega arith);
-  takes = λ n now bytes x m is at read. inr (omega arith);
+  takes = λ n now bytes x m is at unhung read. inr (omega arith);
   hears = λ n now bytes owner seat is. inr (omega arith);
   settles = λ now is. inl refl;
   cuts = λ c seat is. inr (omega arith);
-  hangs = λ n x is at. inr (omega arith);
+  hangs = λ n x is at unhung. inr (omega arith);
+  closes = λ n now bytes x is at unhung. inr (omega arith);
+  raw_joins = λ is. inr (omega arith);
+  raw_refuses = λ is. inl refl;
 })
 
 stepped_by : (k : Core) (e : Event) (n : ℕ) (x y : Session) → numbered k.sessions n ≡ Some x → numbered (happens k e).core.sessions n ≡ Some y → y.cut ≡ true → x.cut ≡ false → k.steps + 1 ≤ (happens k e).core.steps
@@ -213,13 +217,13 @@ ups_event fits all past rest opening k qs e mid after s h = subst (QueuesHave T)
     T = LeftAsks (past ++ moment k e ∷ []) (happens k e).core
 
     before : QueuesHave (LeftAsks (past ++ moment k e ∷ []) (happens k e).core) qs
-    before n q is = (let x = also_numbered qs k.sessions n q (sym s.kept.made.1) is in of x.0 x.1 (s.kept.sessions n x.0 q x.1 is))
+    before n q is = (let x = also_numbered qs k.sessions n q (sym s.kept.made.1) is in elim (raw_or_owned x.0) [ inr owned ↦ of x.0 x.1 owned (s.kept.sessions n x.0 q x.1 is owned) | inl raw ↦ subst (AllAsks (LeftAsk (past ++ moment k e ∷ []) (happens k e).core n)) (sym (s.kept.strangers n x.0 q x.1 is raw).ups) tt ])
       where
-        of : (x : Session) → numbered k.sessions n ≡ Some x → IsSession (book_at opening k all) k.seats k.server n x q → LeftAsks (past ++ moment k e ∷ []) (happens k e).core n q
-        of x at b = both_map (IsCommit (book_at opening k all) x.closing x.cut (job b.seat) b.contents) (LeftAsk past k n) (LeftAsk (past ++ moment k e ∷ []) (happens k e).core n) (λ a commit old y there gone one.
+        of : (x : Session) → numbered k.sessions n ≡ Some x → is_raw x ≡ false → IsSession (book_at opening k all) k.seats k.server n x q → LeftAsks (past ++ moment k e ∷ []) (happens k e).core n q
+        of x at owned b = both_map (IsCommit (book_at opening k all) x.closing x.cut (job b.seat) b.contents) (LeftAsk past k n) (LeftAsk (past ++ moment k e ∷ []) (happens k e).core n) (λ a commit old y there gone one.
             let was = (leaves fits opening all k qs mid e s.kept s.finds).were n y there gone in
             let same : was.0 ≡ x = some_is was.0 x (sym was.1 ∙ at) in
-            sender_next fits all past rest opening k qs e mid after s n a.xid x y q at b there gone (was.2 ∙ ap (λ (z : Session). z.closing) same) (λ cut. old x at cut one) (λ uncut. ask_job (book_at opening k all) x.closing x.cut (job b.seat) b.contents a.xid a.call commit one uncut)) q.ups b.commits (h n q is)
+            sender_next fits all past rest opening k qs e mid after s n a.xid x y q at b there gone.1 (was.2 ∙ ap (λ (z : Session). z.closing) same) (λ cut. old x at (owned, cut) one) (λ uncut. ask_job (book_at opening k all) x.closing x.cut (job b.seat) b.contents a.xid a.call commit one uncut)) q.ups b.commits (h n q is)
 
     -- nothing is sent on a session that its client left
     put : QueuesHave (LeftAsks (past ++ moment k e ∷ []) (happens k e).core) mid → QueuesHave (LeftAsks (past ++ moment k e ∷ []) (happens k e).core) (queues_after mid (happens k e) s.sends)
@@ -237,14 +241,14 @@ ups_event fits all past rest opening k qs e mid after s h = subst (QueuesHave T)
         new n is [] all_ = tt
         new n is (a ∷ us) all_ = every (a ∷ us) (λ y there gone. absurd (some_sent y there gone))
           where
-            every : (us : List Ask) → ((y : Session) → numbered (happens k e).core.sessions n ≡ Some y → y.cut ≡ true → ⊥) → AllAsks (LeftAsk (past ++ moment k e ∷ []) (happens k e).core n) us
+            every : (us : List Ask) → ((y : Session) → numbered (happens k e).core.sessions n ≡ Some y → IsLeft y → ⊥) → AllAsks (LeftAsk (past ++ moment k e ∷ []) (happens k e).core n) us
             every [] never = tt
             every (b ∷ bs) never = ((λ y there gone one. absurd (never y there gone)), every bs never)
 
             not_none : {a : Ask} {us : List Ask} → a ∷ us ≡ [] → ⊥
             not_none z = absurd cc
 
-            some_sent : (y : Session) → numbered (happens k e).core.sessions n ≡ Some y → y.cut ≡ true → ⊥
+            some_sent : (y : Session) → numbered (happens k e).core.sessions n ≡ Some y → IsLeft y → ⊥
             some_sent y there gone = not_none (all_ ∙ no_asks s.sends.replies s.sends.asks (sym ((leaves fits opening all k qs mid e s.kept s.finds).quiet n y is there gone) ∙ s.sends.up_is))
 
         more : (n : ℕ) (q : Queue) (lost : Bool) → (happens k e).session ≡ Some n → LeftAsks (past ++ moment k e ∷ []) (happens k e).core n q → AllAsks (LeftAsk (past ++ moment k e ∷ []) (happens k e).core n) (unless lost q.ups s.sends.asks)
@@ -255,13 +259,13 @@ ups_event fits all past rest opening k qs e mid after s h = subst (QueuesHave T)
 
 -- a change that waited
 waited_before : FitLaws → (all past rest : List Moment) (opening : List Opening) (k : Core) (qs : List Queue) (e : Event) (mid after : List Queue) → Step all past rest opening k qs e mid after → AllAwaited all past opening k qs
-    → (j : ℕ) (c : FileChange) → slice_get k.server.waiting j ≡ Some c → (x : Session) × (q : Queue) × (numbered k.sessions c.session ≡ Some x) × ((h : IsSession (book_at opening k all) k.seats k.server c.session x q) × (x.cut ≡ true → Sender past k x c.session c.xid) × (x.cut ≡ false → JobFor x.closing (job h.seat) c.xid))
-waited_before fits all past rest opening k qs e mid after s h j c there =
+    → (j : ℕ) (c : FileChange) → slice_get k.server.waiting j ≡ Some c → ((x : Session) → numbered k.sessions c.session ≡ Some x → is_raw x ≡ false) → (x : Session) × (q : Queue) × (numbered k.sessions c.session ≡ Some x) × ((h : IsSession (book_at opening k all) k.seats k.server c.session x q) × (x.cut ≡ true → Sender past k x c.session c.xid) × (x.cut ≡ false → JobFor x.closing (job h.seat) c.xid))
+waited_before fits all past rest opening k qs e mid after s h j c there owned =
     let home = s.kept.home j c there in
     let q = also_numbered k.sessions qs c.session home.0 s.kept.made.1 home.1 in
-    let b = s.kept.sessions c.session home.0 q.0 home.1 q.1 in
+    let b = s.kept.sessions c.session home.0 q.0 home.1 q.1 (owned home.0 home.1) in
     let mine = own_there k.server.waiting j c there in
-    (home.0, q.0, home.1, (b, (λ cut. h.waiting j c home.0 there home.1 cut), (λ uncut. change_job (book_at opening k all) c.session home.0.closing home.0.cut (job b.seat) c.xid c.file c.what (b.pending mine.0 c mine.1) uncut)))
+    (home.0, q.0, home.1, (b, (λ cut. h.waiting j c home.0 there home.1 (owned home.0 home.1, cut)), (λ uncut. change_job (book_at opening k all) c.session home.0.closing home.0.cut (job b.seat) c.xid c.file c.what (b.pending mine.0 c mine.1) uncut)))
 
 abbrev number_of : Message → ℕ
 number_of (message.Call x b) = x
@@ -276,10 +280,11 @@ ask_before : FitLaws → (all past rest : List Moment) (opening : List Opening) 
     → (x : Session) × (numbered k.sessions n ≡ Some x) × ((h : IsSession (book_at opening k all) k.seats k.server n x f.0) × (x.cut ≡ true → Sender past k x n xid) × (x.cut ≡ false → JobFor x.closing (job h.seat) xid))
 ask_before fits all past rest opening k qs n now bytes mid after s f h xid b read one =
     let x = also_numbered qs k.sessions n f.0 (sym s.kept.made.1) f.3 in
-    let c = s.kept.sessions n x.0 f.0 x.1 f.3 in
+    let owned = owned_up s.kept n x.0 f.0 x.1 f.3 f.1 f.2 f.4 in
+    let c = s.kept.sessions n x.0 f.0 x.1 f.3 owned in
     let commit = (subst (AllAsks (IsCommit (book_at opening k all) x.0.closing x.0.cut (job c.seat) c.contents)) f.4 c.commits).0 in
     let left = (subst (AllAsks (LeftAsk past k n)) f.4 (h.ups n f.0 f.3)).0 in
-    (x.0, x.1, (c, (λ cut. subst (Sender past k x.0 n) number (left x.0 x.1 cut one)), (λ uncut. subst (JobFor x.0.closing (job c.seat)) number (ask_job (book_at opening k all) x.0.closing x.0.cut (job c.seat) c.contents f.1.xid f.1.call commit one uncut))))
+    (x.0, x.1, (c, (λ cut. subst (Sender past k x.0 n) number (left x.0 x.1 (owned, cut) one)), (λ uncut. subst (JobFor x.0.closing (job c.seat)) number (ask_job (book_at opening k all) x.0.closing x.0.cut (job c.seat) c.contents f.1.xid f.1.call commit one uncut))))
   where
     same_read : (r : Result Message WireFault) (p q : Message) → r ≡ Ok p → r ≡ Ok q → p ≡ q
     same_read r p q e f = cc
@@ -292,7 +297,7 @@ ask_before fits all past rest opening k qs n now bytes mid after s f h xid b rea
 
 -- what waits then
 waiting_event : FitLaws → (all past rest : List Moment) (opening : List Opening) (k : Core) (qs : List Queue) (e : Event) (mid after : List Queue) → Step all past rest opening k qs e mid after → AllAwaited all past opening k qs
-    → (i : ℕ) (c : FileChange) (y : Session) → slice_get (happens k e).core.server.waiting i ≡ Some c → numbered (happens k e).core.sessions c.session ≡ Some y → y.cut ≡ true → Sender (past ++ moment k e ∷ []) (happens k e).core y c.session c.xid
+    → (i : ℕ) (c : FileChange) (y : Session) → slice_get (happens k e).core.server.waiting i ≡ Some c → numbered (happens k e).core.sessions c.session ≡ Some y → IsLeft y → Sender (past ++ moment k e ∷ []) (happens k e).core y c.session c.xid
 waiting_event fits all past rest opening k qs e mid after s h i c y there at gone = elim ((event_grows k e).came i c there) [
   | inl old ↦ of_old old.0 old.1
   | inr new ↦ of_new e s there at new
@@ -300,10 +305,10 @@ waiting_event fits all past rest opening k qs e mid after s h i c y there at gon
   where
     of_old : (j : ℕ) → slice_get k.server.waiting j ≡ Some c → Sender (past ++ moment k e ∷ []) (happens k e).core y c.session c.xid
     of_old j was =
-        let w = waited_before fits all past rest opening k qs e mid after s h j c was in
         let x = (leaves fits opening all k qs mid e s.kept s.finds).were c.session y at gone in
+        let w = waited_before fits all past rest opening k qs e mid after s h j c was (λ z found. owned_before k e c.session z y found at gone.0) in
         let same : x.0 ≡ w.0 = some_is x.0 w.0 (sym x.1 ∙ w.2) in
-        sender_next fits all past rest opening k qs e mid after s c.session c.xid w.0 y w.1 w.2 w.3.0 at gone (x.2 ∙ ap (λ (z : Session). z.closing) same) w.3.1 w.3.2
+        sender_next fits all past rest opening k qs e mid after s c.session c.xid w.0 y w.1 w.2 w.3.0 at gone.1 (x.2 ∙ ap (λ (z : Session). z.closing) same) w.3.1 w.3.2
 
     of_new : (e : Event) → Step all past rest opening k qs e mid after → slice_get (happens k e).core.server.waiting i ≡ Some c → numbered (happens k e).core.sessions c.session ≡ Some y → ((now : ℕ) × (bytes : List ℕ) × (b : Body) × (e ≡ Serves c.session now bytes) × (parse_of server_waiting bytes ≡ Ok (message.Call c.xid b)) × Rattle.trace_replay.specs.Entries.MayEnter b) → Sender (past ++ moment k e ∷ []) (happens k e).core y c.session c.xid
     of_new e s there at (now, bytes, b, is, read, may) = of_served e s there at is
@@ -315,25 +320,25 @@ waiting_event fits all past rest opening k qs e mid after s h i c y there at gon
             ask f s there at = elim (got_waits k.server c.session now f.1 (stands k.server c.session) (Rattle.kept_promise.proofs.Actors.serves_fits (book_at opening k all) k qs c.session now bytes mid s.kept f)) [
               | inl same ↦
                   let was : slice_get k.server.waiting i ≡ Some c = ap (λ (l : List FileChange). slice_get l i) (sym same) ∙ ap (λ (z : server.State). slice_get z.waiting i) (sym server_is) ∙ there in
-                  let w = waited_before fits all past rest opening k qs (Serves c.session now bytes) mid after s h i c was in
+                  let w = waited_before fits all past rest opening k qs (Serves c.session now bytes) mid after s h i c was (λ z found. owned_before k (Serves c.session now bytes) c.session z y found at gone.0) in
                   let x = (leaves fits opening all k qs mid (Serves c.session now bytes) s.kept s.finds).were c.session y at gone in
                   let one : x.0 ≡ w.0 = some_is x.0 w.0 (sym x.1 ∙ w.2) in
-                  sender_next fits all past rest opening k qs (Serves c.session now bytes) mid after s c.session c.xid w.0 y w.1 w.2 w.3.0 at gone (x.2 ∙ ap (λ (z : Session). z.closing) one) w.3.1 w.3.2
+                  sender_next fits all past rest opening k qs (Serves c.session now bytes) mid after s c.session c.xid w.0 y w.1 w.2 w.3.0 at gone.1 (x.2 ∙ ap (λ (z : Session). z.closing) one) w.3.1 w.3.2
               | inr new ↦
                   let w = ask_before fits all past rest opening k qs c.session now bytes mid after s f h c.xid b read new.3 in
                   let x = (leaves fits opening all k qs mid (Serves c.session now bytes) s.kept s.finds).were c.session y at gone in
                   let one : x.0 ≡ w.0 = some_is x.0 w.0 (sym x.1 ∙ w.1) in
-                  sender_next fits all past rest opening k qs (Serves c.session now bytes) mid after s c.session c.xid w.0 y f.0 w.1 w.2.0 at gone (x.2 ∙ ap (λ (z : Session). z.closing) one) w.2.1 w.2.2
+                  sender_next fits all past rest opening k qs (Serves c.session now bytes) mid after s c.session c.xid w.0 y f.0 w.1 w.2.0 at gone.1 (x.2 ∙ ap (λ (z : Session). z.closing) one) w.2.1 w.2.2
             ]
               where
                 x : (x : Session) × (numbered k.sessions c.session ≡ Some x)
                 x = also_numbered qs k.sessions c.session f.0 (sym s.kept.made.1) f.3
 
                 server_is : (happens k (Serves c.session now bytes)).core.server ≡ (server_step k.server (event.Got c.session (ask_message f.1) now)).0
-                server_is = ap (λ (o : Option Session). (serves k c.session now bytes o).core.server) x.1 ∙ ap (λ (r : Result Message WireFault). (serves_if k c.session now x.0 r).core.server) (serves_read fits (book_at opening k all) k qs c.session now bytes mid s.kept f)
+                server_is = ap (λ (o : Option Session). (serves k c.session now bytes o).core.server) x.1 ∙ ap (λ (b : Bool). (serves_unless k c.session now bytes x.0 b).core.server) (unhung_up s.kept c.session x.0 f.0 x.1 f.3 f.1 f.2 f.4) ∙ ap (λ (r : Result Message WireFault). (serves_if k c.session now x.0 r).core.server) (serves_read fits (book_at opening k all) k qs c.session now bytes mid s.kept f)
 
             serve : Step all past rest opening k qs (Serves c.session now bytes) mid after → slice_get (happens k (Serves c.session now bytes)).core.server.waiting i ≡ Some c → numbered (happens k (Serves c.session now bytes)).core.sessions c.session ≡ Some y → Sender (past ++ moment k (Serves c.session now bytes) ∷ []) (happens k (Serves c.session now bytes)).core y c.session c.xid
-            serve s there at = ask (asked_only fits k qs c.session now bytes mid s.finds c.xid b read) s there at
+            serve s there at = ask (asked_only fits k qs c.session now bytes mid s.finds (λ z found. owned_before k (Serves c.session now bytes) c.session z y found at gone.0) c.xid b read) s there at
 
 -- ---- points of changes
 
@@ -424,11 +429,14 @@ points_by k e = what_happens k e (Points k e) (record {
       | inl last ↦ (let step = command_step seat.client d now in let w = acted_point (begun c (word_of d) (file_of d) (value_at_begin seat.client (word_of d) (file_of d) step.1.ended) (k.steps + 1)) step.0 [] (k.steps + 1) step.1 (ap (λ (z : Op). changes z.word) (sym last.1) ∙ alters) in nothing_there q (sym w.1 ∙ ap (λ (z : Op). z.point) (sym last.1) ∙ point))
     ];
   };
-  takes = λ n now bytes x m is there read. subst (λ (w : Event). Points k w (server_got k n now x m)) (sym is) (taken n now bytes x m there read (Rattle.kept_promise.proofs.EntriesGrow.taken_grows k n now bytes x m read));
+  takes = λ n now bytes x m is there unhung read. subst (λ (w : Event). Points k w (server_got k n now x m)) (sym is) (taken n now bytes x m there read (Rattle.kept_promise.proofs.EntriesGrow.taken_grows k n now bytes x m read));
   hears = λ n now bytes owner seat is. acted_points k e _ seat.place _ _ (k.steps + 1) _ refl;
   settles = λ now is. subst (λ (w : Event). Points k w (core_settles k now)) (sym is) (settled now (Rattle.kept_promise.proofs.EntriesGrow.settled_grows k now));
   cuts = λ c seat is. acted_points k e _ seat.place _ _ (k.steps + 1) _ refl;
-  hangs = λ n x is there. same_points k e _ refl;
+  hangs = λ n x is there unhung. same_points k e _ refl;
+  closes = λ n now bytes x is there unhung. same_points k e _ refl;
+  raw_joins = λ is. same_points k e _ refl;
+  raw_refuses = λ is. same_points k e _ refl;
 })
   where
     served_on : (n now m t : ℕ) (bytes z : List ℕ) → Serves n now bytes ≡ Serves m t z → n ≡ m
@@ -532,13 +540,16 @@ made_event fits all past rest opening k qs e mid after s h p q r at alters point
     now : q ≡ k.steps + 1 → k.steps + 1 ≤ (happens k e).core.steps → (g : GrewBy k e (happens k e)) → (x : Session) → numbered k.sessions g.session ≡ Some x → x.closing ≡ Some p → MadeBy (past ++ moment k e ∷ []) opening (happens k e).core r q
     now step_is stepped g x home known = elim (by g.by) [
       | inl old ↦ was old
-      | inr held ↦ record { moment_ = moment k e; there = here; step_is = sym step_is; grows = grown_now fits all past rest opening k qs e mid after s h.entered g; held = held }
+      | inr held ↦ record { moment_ = moment k e; there = here; step_is = sym step_is; grows = grown_now fits all past rest opening k qs e mid after s h.entered g (x, home, owned); held = held }
     ]
       where
+        owned : is_raw x ≡ false
+        owned = owned_closing s.kept g.session x p home known
+
         of_settling : (now : ℕ) (c : FileChange) → ready_by k.server now ≡ Some c → c.session ≡ g.session → c.xid ≡ g.xid → OldPoint k p q ⊎ Held (past ++ moment k e ∷ []) (happens k e).core.steps r g.session g.xid
         of_settling now c first session number =
             let z = ready_waits k.server now c first in
-            let w = waited_before fits all past rest opening k qs e mid after s h z.0 c z.1 in
+            let w = waited_before fits all past rest opening k qs e mid after s h z.0 c z.1 (λ v found. ap is_raw (some_is v x (sym found ∙ ap (numbered k.sessions) session ∙ home)) ∙ owned) in
             let mine : x ≡ w.0 = some_is x w.0 (sym home ∙ ap (numbered k.sessions) (sym session) ∙ w.2) in
             inr (subst (λ (i : ℕ). Held (past ++ moment k e ∷ []) (happens k e).core.steps r i g.xid) session (subst (λ (i : ℕ). Held (past ++ moment k e ∷ []) (happens k e).core.steps r c.session i) number
             (held_next fits all past rest opening k qs e mid after s c.session c.xid w.0 w.1 w.2 w.3.0 (λ uncut. stepped) w.3.1 w.3.2 p r (ap (λ (v : Session). v.closing) (sym mine) ∙ known) at)))
@@ -557,7 +568,7 @@ made_event fits all past rest opening k qs e mid after s h p q r at alters point
             ]
 
             serve : Step all past rest opening k qs (Serves g.session now bytes) mid after → slice_get (happens k (Serves g.session now bytes)).core.ops p ≡ Some r → k.steps + 1 ≤ (happens k (Serves g.session now bytes)).core.steps → OldPoint k p q ⊎ Held (past ++ moment k (Serves g.session now bytes) ∷ []) (happens k (Serves g.session now bytes)).core.steps r g.session g.xid
-            serve t there stepped_ = ask (asked_only fits k qs g.session now bytes mid t.finds g.xid b read) t there stepped_
+            serve t there stepped_ = ask (asked_only fits k qs g.session now bytes mid t.finds (λ v found. ap is_raw (some_is v x (sym found ∙ home)) ∙ owned) g.xid b read) t there stepped_
 
             of_serving : OldPoint k p q ⊎ Held (past ++ moment k e ∷ []) (happens k e).core.steps r g.session g.xid
             of_serving = subst (λ (z : Event). Step all past rest opening k qs z mid after → slice_get (happens k z).core.ops p ≡ Some r → k.steps + 1 ≤ (happens k z).core.steps → OldPoint k p q ⊎ Held (past ++ moment k z ∷ []) (happens k z).core.steps r g.session g.xid) (sym is) serve s at stepped

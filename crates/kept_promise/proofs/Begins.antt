@@ -15,7 +15,7 @@ use Rattle.kept_promise.proofs.Rights.{IsRight, WasThere}
 use Rattle.kept_promise.proofs.PathNames.{is_creating}
 use Rattle.kept_promise.proofs.History.{onward, goes_appended, still_appended}
 use Rattle.kept_promise.proofs.Later.{same_view, cached_later}
-use Rattle.kept_promise.proofs.Turns.{Around, turned_core, kept_turn}
+use Rattle.kept_promise.proofs.Turns.{Around, turned_core, kept_turn, has_owner}
 use Rattle.kept_promise.proofs.Taken.{rising_append, times_map_append}
 use Rattle.kept_promise.proofs.Orderly.{locals_of, InPlace}
 use Rattle.kept_promise.proofs.Ordered.{BeginsWith, orderly_clear, orderly_begun}
@@ -211,7 +211,7 @@ pub kept_begins : (book : Book) (k : Core) (qs : List Queue) (c n : ℕ) (x : Se
     → Around k.seats seats c (record { client = begun_client seat.client cache sent temp file s; session = seat.session; place = Some (length book.ops) }) → Around k.sessions sessions n (record x { closing = closing }) → Around qs after n (record { ups = unless x.hung q.ups (a ∷ []); downs = q.downs })
     → (let more = onward book 1 (book.ops ++ new ∷ []) in IsKept more (turned_core k more k.server seats sessions) after)
 kept_begins book k qs c n x q seat new cache sent temp file s a closing value seats sessions after g w seat_around session_around queue_around =
-    let h = g.kept.sessions n x q g.at g.is in
+    let h = g.kept.sessions n x q g.at g.is (has_owner k.seats x seat (ap (numbered k.seats) g.owner ∙ g.here)) in
     let more = onward book 1 (book.ops ++ new ∷ []) in
     let j : Job = record { place = length book.ops; file = file; stage = s } in
     let d : Seat = record { client = begun_client seat.client cache sent temp file s; session = seat.session; place = Some (length book.ops) } in
@@ -313,12 +313,12 @@ kept_begins book k qs c n x q seat new cache sent temp file s a closing value se
     past_end (z ∷ xs) (suc p) e = past_end xs p (omega (arith, e))
 
     absurd_hung : x.hung ≡ true → unless x.hung q.ups (a ∷ []) ≡ []
-    absurd_hung e = by x.hung e ((g.kept.sessions n x q g.at g.is).lost e)
+    absurd_hung e = by x.hung e ((g.kept.sessions n x q g.at g.is (has_owner k.seats x seat (ap (numbered k.seats) g.owner ∙ g.here))).lost e)
       where
         by : (b : Bool) → b ≡ true → q.ups ≡ [] → unless b q.ups (a ∷ []) ≡ []
         by true e none = none
         by false e none = absurd cc
 
-    short_by : (b : Bool) (m : ℕ) → ((m : ℕ) → length ((g.kept.sessions n x q g.at g.is).contents m) ≤ 67108864) → length (cond b value ((g.kept.sessions n x q g.at g.is).contents m)) ≤ 67108864
+    short_by : (b : Bool) (m : ℕ) → ((m : ℕ) → length ((g.kept.sessions n x q g.at g.is (has_owner k.seats x seat (ap (numbered k.seats) g.owner ∙ g.here))).contents m) ≤ 67108864) → length (cond b value ((g.kept.sessions n x q g.at g.is (has_owner k.seats x seat (ap (numbered k.seats) g.owner ∙ g.here))).contents m)) ≤ 67108864
     short_by true m f = w.short
     short_by false m f = f m

@@ -8,7 +8,7 @@ use Rattle.chunk_calls.specs.Writing.{done_unless}
 use Rattle.chunk_calls.specs.Entering.{with_told}
 use Rattle.temp_files.specs.Temps.{with_piece}
 use Rattle.client_state.specs.declared.task.Way.TheVariants as way
-use Rattle.kept_promise.proofs.Common.{slice_get, Chunk, handle_bytes, Done, Failed, Status, message_spell, MessageFits, Node, directory, file, node_of, at, makes, makes_unless, writes_unless, room_fault, Temp, temp_at, with_temp, key_of, piece_fault, range_fault, insert_entry, nat_cmp, ServerStep, Indexed, File, Core, Session, Event.Serves, CoreStep, Loss.Nothing, numbered, with_numbered, unless, hashed_of, Book, Call.Lease, Call.Hash, Call.Read, Call.Make, Call.Send, Reply, Reply.Made, Reply.Stored, Ask, Told, Queue, ask_message, told_message, call_program, reply_program, Tree, Call.Walks, Reply.Walked, happens, serves, serves_if, got_if, stands, Message, WireFault, Contains, Contains-push, name_answer, not, value_at, later, Leasing}
+use Rattle.kept_promise.proofs.Common.{slice_get, Chunk, handle_bytes, Done, Failed, Status, message_spell, MessageFits, Node, directory, file, node_of, at, makes, makes_unless, writes_unless, room_fault, Temp, temp_at, with_temp, key_of, piece_fault, range_fault, insert_entry, nat_cmp, ServerStep, Indexed, File, Core, Session, Event.Serves, CoreStep, Loss.Nothing, numbered, with_numbered, unless, hashed_of, Book, Call.Lease, Call.Hash, Call.Read, Call.Make, Call.Send, Reply, Reply.Made, Reply.Stored, Ask, Told, Queue, ask_message, told_message, call_program, reply_program, Tree, Call.Walks, Reply.Walked, happens, serves, serves_if, got_if, stands, Message, WireFault, Contains, Contains-push, name_answer, not, value_at, later, Leasing, is_raw}
 use Rattle.server_core.specs.Recalling.{term_on, file_in, grants_on}
 use Rattle.kept_promise.proofs.Recallings.{term_small}
 use Rattle.kept_promise.proofs.Statements.{ToldFits, CallFits, IsPlain}
@@ -17,8 +17,8 @@ use Rattle.kept_promise.proofs.Messages.{Job, job, stage_word, AllAsks, Rising, 
 use Rattle.kept_promise.proofs.History.{onward}
 use Rattle.kept_promise.proofs.Fits.{FitLaws}
 use Rattle.kept_promise.proofs.Takes.{took, Answers}
-use Rattle.kept_promise.proofs.Facts.{HasTerm, IsServer, IsSession, IsKept, is_naming}
-use Rattle.kept_promise.proofs.Serves.{answered, leads_answer, parsed_at}
+use Rattle.kept_promise.proofs.Facts.{IsLeasing, IsServer, IsSession, IsKept, is_naming}
+use Rattle.kept_promise.proofs.Serves.{answered, leads_answer, parsed_at, serves_as}
 use Rattle.kept_promise.proofs.Tells.{hash_range, lease_reply, lease_reply_fits, lease_told, hash_reply, hash_reply_fits, hash_told, read_reply, read_reply_fits, read_told, walk_told}
 use Rattle.kept_promise.proofs.Shelves.{of_inserted, of_lookup, keys_tell, keys_number, parts_put}
 use Rattle.kept_promise.proofs.Shelf.{IsShelf, NoTemp, shelf_put, one_put, other_put}
@@ -106,12 +106,14 @@ pub record Given (book : Book) (k : Core) (qs : List Queue) (n now : ℕ) (x : S
   pub kept : IsKept book k qs
   pub at : numbered k.sessions n ≡ Some x
   pub is : numbered qs n ≡ Some q
+  -- the session is a client's
+  pub owned : is_raw x ≡ false
   pub first : q.ups ≡ a ∷ us
   pub unhung : x.hung ≡ false
   pub noted : IsNoted book k (Serves n now (message_spell (ask_message a)))
 
 abbrev pub session_in : (book : Book) (k : Core) (qs : List Queue) (n now : ℕ) (x : Session) (q : Queue) (a : Ask) (us : List Ask) → Given book k qs n now x q a us → IsSession book k.seats k.server n x q
-session_in book k qs n now x q a us g = g.kept.sessions n x q g.at g.is
+session_in book k qs n now x q a us g = g.kept.sessions n x q g.at g.is g.owned
 
 -- the first call fits
 pub first_fits : (book : Book) (k : Core) (qs : List Queue) (n now : ℕ) (x : Session) (q : Queue) (a : Ask) (us : List Ask) → (g : Given book k qs n now x q a us) → CallFits a.lbfs a.xid a.call
@@ -125,8 +127,8 @@ abbrev pub rest_of : List Queue → (n : ℕ) → Queue → List Ask → List Qu
 rest_of qs n q us = with_numbered qs n (record q { ups = us })
 
 -- with these leases
-leads_with : (book : Book) (k : Core) (qs : List Queue) (n now : ℕ) (leasing : Leasing) (x : Session) (q : Queue) (a : Ask) (us : List Ask) (temps : List (ℕ × Temp)) (index : Indexed) (r : Reply) → (g : Given book k qs n now x q a us) → HasTerm leasing → Answers book k n x q a temps r (session_in book k qs n now x q a us g) → Leads book (rest_of qs n q us) (answered k n leasing x a temps index r)
-leads_with book k qs n now leasing x q a us temps index r g leases shows = leads_answer book k qs n leasing x q a us temps index r leases g.kept g.at g.is g.first g.unhung shows
+leads_with : (book : Book) (k : Core) (qs : List Queue) (n now : ℕ) (leasing : Leasing) (x : Session) (q : Queue) (a : Ask) (us : List Ask) (temps : List (ℕ × Temp)) (index : Indexed) (r : Reply) → (g : Given book k qs n now x q a us) → IsLeasing leasing → Answers book k n x q a temps r (session_in book k qs n now x q a us g) → Leads book (rest_of qs n q us) (answered k n leasing x a temps index r)
+leads_with book k qs n now leasing x q a us temps index r g leases shows = leads_answer book k qs n leasing x q a us temps index r leases g.kept g.at g.is g.owned g.first g.unhung shows
 
 pub leads_by : (book : Book) (k : Core) (qs : List Queue) (n now : ℕ) (x : Session) (q : Queue) (a : Ask) (us : List Ask) (temps : List (ℕ × Temp)) (index : Indexed) (r : Reply) → (g : Given book k qs n now x q a us) → Answers book k n x q a temps r (session_in book k qs n now x q a us g) → Leads book (rest_of qs n q us) (answered k n (later k.server.leasing now) x a temps index r)
 leads_by book k qs n now x q a us temps index r g shows = leads_with book k qs n now (later k.server.leasing now) x q a us temps index r g g.kept.server.leases shows
@@ -175,7 +177,7 @@ abbrev pub told_leasing : server.State → (n now f : ℕ) → Leasing
 told_leasing s n now f = (grants_on (at s now) n (file_in (node_of s.tree (handle_bytes f)))).leasing
 
 term_fits : (book : Book) (s : server.State) (f : ℕ) → IsServer book s → told_term s f < 4294967296
-term_fits book s f h = term_small s.leasing.term s.waiting (file_in (node_of s.tree (handle_bytes f))) h.leases
+term_fits book s f h = term_small s.leasing.term s.waiting (file_in (node_of s.tree (handle_bytes f))) h.leases.0
 
 -- what a GETHASH leaves of the index
 abbrev pub hash_index : server.State → (lbfs f o : ℕ) → Indexed
@@ -215,8 +217,7 @@ walk_sent laws book k qs n now x q lbfs xid w us g none =
     let h = session_in book k qs n now x q a us g in
     let fits = first_fits book k qs n now x q a us g in
     let standing : stands k.server n ≡ true = h.stands_is ∙ ap not g.unhung in
-    ap (λ (o : Option Session). (serves k n now (message_spell (ask_message a)) o).down) g.at
-    ∙ ap (λ (r : Result Message WireFault). (serves_if k n now x r).down) (parsed_at laws k n a fits)
+    ap (λ (t : CoreStep). t.down) (serves_as k n now (message_spell (ask_message a)) x (ask_message a) g.at g.unhung (parsed_at laws k n a fits))
     ∙ ap (λ (b : Bool). (got_if k.server b n (ask_message a) now).1.send) standing
     ∙ ap (λ (r : server.State × ServerStep). r.1.send) (called_walk (at k.server now) n xid w fits.1 none)
 

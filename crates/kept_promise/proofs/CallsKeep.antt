@@ -16,7 +16,9 @@ use Rattle.kept_promise.proofs.Common.{Temp, size_most, temp_at, room_fault, pie
 use Rattle.server_core.specs.Recalling.{comes}
 use Rattle.server_core.specs.declared.change.Wanted.TheVariants as wanted
 use Rattle.server_core.specs.Step.{asks, asks_tree}
-use Rattle.tree_calls.specs.Waiting.{calls}
+use Rattle.tree_calls.specs.Telling.{told as told_by}
+use Rattle.tree_calls.specs.Waiting.{calls, told_outcome}
+use Rattle.trace_replay.specs.NameChanges.{ChangesNames}
 use Rattle.tree_calls.specs.declared.asked.Outcome.{Outcome}
 use Rattle.tree_calls.specs.declared.asked.Outcome.TheVariants.{Answered, Waits as ToWait}
 use Rattle.server_law.proofs.lemmas.Trees.{Keeps, keeps_same}
@@ -166,6 +168,23 @@ outcome_tree s session xid p = by p.1
     by None = refl
     by (Some (Answered d)) = refl
     by (Some (ToWait a)) = refl
+
+-- a call by which names may change
+abbrev pub MayName : Body → Type 0
+MayName (body.Nfs m) = ChangesNames m
+MayName b = ⊥
+
+-- any other leaves the tree
+pub called_tree : (s : server.State) (session xid : ℕ) (b : Body) → ((called s session xid b).0.tree ≡ s.tree) ⊎ MayName b
+called_tree s session xid (body.Nfs nfs.Null) = inl refl
+called_tree s session xid (body.Nfs (nfs.Read r)) = inl refl
+called_tree s session xid (body.Nfs (nfs.Create a)) = inr tt
+called_tree s session xid (body.Nfs (nfs.MkDir a)) = inr tt
+called_tree s session xid (body.Nfs (nfs.Remove a)) = inr tt
+called_tree s session xid (body.Nfs (nfs.RmDir a)) = inr tt
+called_tree s session xid (body.Nfs (nfs.Rename a)) = inr tt
+called_tree s session xid (body.Nfs m) = inl (outcome_tree s session xid (s.tree, told_outcome (told_by s.tree.nodes m)))
+called_tree s session xid b = inl (called_keeps (λ (z : server.State). z.tree ≡ s.tree) s session xid b tt (λ temps waiting index leasing w. refl))
 
 -- what a server's tree keeps by the calls on it, it keeps whatever comes
 called_any : (s : server.State) (session xid : ℕ) (b : Body) (R : Tree → Type 0) → R s.tree → ((busy : Bool) (m : Nfs) → R (calls s.tree (server.held s.waiting) busy m).0) → R (called s session xid b).0.tree

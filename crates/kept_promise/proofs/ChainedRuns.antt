@@ -10,18 +10,21 @@ use Rattle.trace_text.specs.declared.line.Who.{Who}
 use Rattle.trace_text.specs.declared.line.Who.TheVariants as who
 use Rattle.trace_ends.specs.Core.{with_client}
 use Rattle.trace_ends.specs.Session.{Seat}
-use Rattle.trace_replay.specs.Chained.{Side, Up, Down, bytes_sent, Came, nothing_came, Delivery, brought, is_side, more_came, came_with, came_after, records_in, event_at, IsChain, IsDelivered, Part, Speaks, Grants, Drifts, Clients, Opens, Tells, Changes, Brings, rounds_of, parts_by, parts_of, client_with, is_shut, HasMoments, IsRunOf, IsChained}
+use Rattle.trace_replay.specs.Chained.{Side, Up, Down, AllSent, nothing_sent, sent_with, sent_after, unless_shut, Came, nothing_came, Delivery, brought, is_side, more_came, came_with, came_after, records_in, event_at, IsChain, IsDelivered, Part, Speaks, Grants, Drifts, Clients, Opens, Tells, Sends, Changes, Brings, rounds_of, parts_by, parts_of, client_with, is_shut, HasMoments, IsRunOf, IsChained}
+use Rattle.trace_replay.specs.Delivery.{taken_up, spoilt_as}
+use Rattle.trace_replay.specs.World.{raw_put, raw_put_in}
 use Rattle.trace_replay.specs.Run.{place_for, directory_asks, file_asks}
 use Rattle.trace_replay.specs.declared.stage.Stage.{Stage}
 use Rattle.trace_replay.specs.declared.stage.Stage.TheVariants as stage
 use Rattle.trace_replay.specs.declared.turn.Turn.TheVariants as turn
 use Rattle.tree_nodes.specs.declared.node.Body.TheVariants.{Directory, File}
-use Rattle.kept_promise.proofs.Common.{◌==◌, content_bytes, fed, Unread, Parts, nothing_read, lines_of, line_of, Line, LineFault, Grammar, Turn, Core, Session, Event, numbered, with_numbered, World, Wire, start, happened, all_happened, up_at, up_some, down_at, down_some, up_length, down_length, up_all, round, is_still, is_still_at, passes, at_events, count_of, asks_at, asks, asked, asked_by, turned, run_from, run, Moment, moments_of, up_moments_at, up_moments, down_moments_at, down_moments, round_moments, passes_moments, turn_moments, moments_from, moments, sized, nat_le, line_most}
+use Rattle.kept_promise.proofs.Common.{◌==◌, content_bytes, fed, Unread, Parts, nothing_read, lines_of, line_of, Line, LineFault, Grammar, Turn, Core, Session, Event, numbered, with_numbered, World, Wire, start, happened, all_happened, up_at, up_some, down_at, down_some, up_length, down_length, up_all, round, is_still, is_still_at, passes, at_events, count_of, asks_at, asks, asked, asked_by, turned, run_from, run, Moment, moments_of, up_moments_at, up_moments, down_moments_at, down_moments, round_moments, passes_moments, turn_moments, moments_from, moments, sized, nat_le, line_most, Fed, Refusal, split, unless}
 use Rattle.kept_promise.proofs.Lists.{some_is, nothing_there, same_or_not, both_true}
 use Rattle.kept_promise.proofs.Turns.{Around, around_with, also_numbered}
-use Rattle.kept_promise.proofs.Deliveries.{end_twice}
-use Rattle.kept_promise.proofs.Rounds.{is_empty}
-use Rattle.kept_promise.proofs.OnTheWay.{end_of, IsWay, queue_of, end_at, AreOnWay, on_way_next}
+use Rattle.kept_promise.proofs.Deliveries.{end_twice, spoilt_told}
+use Rattle.kept_promise.proofs.RunsCarried.{moment}
+use Rattle.kept_promise.proofs.Rounds.{AreRested, AreRestedBut, rests_happened, rests_up, rests_down, rests_put, is_empty}
+use Rattle.kept_promise.proofs.OnTheWay.{end_of, IsWay, queue_of, end_at, AreOnWay, sent_then, sent_all, way_next, on_way_next}
 use Rattle.kept_promise.proofs.RunsAsked.{turn_of, within, asked_turn}
 use Rattle.kept_promise.proofs.RunsResults.{asking, turn_is, refused_line, no_world, ended_is, ran_by, moments_by}
 
@@ -94,9 +97,27 @@ way_taken false queue end came sent k h =
     end_is : (first second : List ℕ) → (fed (end_of first) second).0 ≡ end_of (first ++ second)
     end_is first second = ap (λ (p : Parts). record { rest = p.rest; spoilt = p.spoilt }) (end_twice nothing_read first second)
 
+-- what an end takes of what it is given
+abbrev taken_by : Side → Fed → List (List ℕ)
+taken_by Up f = taken_up f
+taken_by Down f = f.records
+
 -- the records that it completes
-way_records : (end : Unread) (piece first second : List ℕ) → end ≡ end_of first → piece ≡ second → records_in (first ++ second) ≡ records_in first ++ (fed end piece).1.records
-way_records end piece first second e f = sym (ap (λ (p : Parts). p.records) (end_twice nothing_read first second)) ∙ ap (λ (z : Unread). records_in first ++ (fed z second).1.records) (sym e) ∙ ap (λ z. records_in first ++ (fed end z).1.records) (sym f)
+down_records : (end : Unread) (piece first second : List ℕ) → end ≡ end_of first → piece ≡ second → records_in Down (first ++ second) ≡ records_in Down first ++ (fed end piece).1.records
+down_records end piece first second e f = sym (ap (λ (p : Parts). p.records) (end_twice nothing_read first second)) ∙ ap (λ (z : Unread). records_in Down first ++ (fed z second).1.records) (sym e) ∙ ap (λ z. records_in Down first ++ (fed end z).1.records) (sym f)
+
+way_records : (side : Side) (end : Unread) (piece first second : List ℕ) → end ≡ end_of first → piece ≡ second → end.spoilt ≡ None → records_in side (first ++ second) ≡ records_in side first ++ taken_by side (fed end piece).1
+way_records Down end piece first second e f whole = down_records end piece first second e f
+way_records Up end piece first second e f whole =
+    ap (λ (p : Parts). p.records ++ spoilt_as p.spoilt) (sym (end_twice nothing_read first second))
+    ∙ ap (λ (o : Option Refusal). ((split first).records ++ d.records) ++ spoilt_as o) (sym (spoilt_told (end_of first) second))
+    ∙ append_assoc (split first).records d.records (spoilt_as d.spoilt)
+    ∙ ap (λ (l : List (List ℕ)). l ++ (d.records ++ spoilt_as d.spoilt)) (sym (append-nil (split first).records) ∙ ap (λ (o : Option Refusal). (split first).records ++ spoilt_as o) (sym (ap (λ (z : Unread). z.spoilt) (sym e) ∙ whole)))
+    ∙ ap (λ (z : Unread). records_in Up first ++ taken_up (fed z second).1) (sym e)
+    ∙ ap (λ z. records_in Up first ++ taken_up (fed end z).1) (sym f)
+  where
+    d : Fed
+    d = (fed (end_of first) second).1
 
 -- ---- a delivery, either way
 
@@ -105,7 +126,7 @@ wire_with Up count q = record q { up = drop count q.up; server_end = (fed q.serv
 wire_with Down count q = record q { down = drop count q.down; client_end = (fed q.client_end (take count q.down)).0 }
 
 abbrev records_at : Side → (count : ℕ) → Wire → List (List ℕ)
-records_at side count q = (fed (end_at side q) (take count (queue_of side q))).1.records
+records_at side count q = taken_by side (fed (end_at side q) (take count (queue_of side q))).1
 
 abbrev with_taken : World → Side → (n count : ℕ) → Wire → World
 with_taken w side n count q = record w { wires = with_numbered w.wires n (wire_with side count q) }
@@ -121,9 +142,9 @@ events_of : (w : World) (es : List Event) → map (λ (m : Moment). m.event) (mo
 events_of w [] = refl
 events_of w (e ∷ es) = ap (λ z. e ∷ z) (events_of (happened w e) es)
 
-on_way_all : (past : List Moment) (came : Came) (w : World) (es : List Event) → AreOnWay past came w → AreOnWay (past ++ moments_of w es) came (all_happened w es)
-on_way_all past came w [] h = subst (λ (z : List Moment). AreOnWay z came w) (sym (append-nil past)) h
-on_way_all past came w (e ∷ es) h = subst (λ (z : List Moment). AreOnWay z came (all_happened (happened w e) es)) (append_assoc past (record { before = w.core; event = e } ∷ []) (moments_of (happened w e) es)) (on_way_all (past ++ record { before = w.core; event = e } ∷ []) came (happened w e) es (on_way_next past came w e h))
+on_way_all : (sent : AllSent) (came : Came) (w : World) (es : List Event) → AreOnWay sent came w → AreOnWay (sent_all sent (moments_of w es)) came (all_happened w es)
+on_way_all sent came w [] h = h
+on_way_all sent came w (e ∷ es) h = on_way_all (sent_then sent (moment w.core e)) came (happened w e) es (on_way_next sent came w e h)
 
 -- what comes counts on this way of this session alone
 abbrev delivery : Side → (n : ℕ) → Amount → (now : ℕ) → Delivery
@@ -154,10 +175,10 @@ came_none came d side n = by (is_side d.side side) (d.session == n)
     by true false = refl
     by false t = refl
 
-on_way_came : (past : List Moment) (came more : Came) (w : World) → ((side : Side) (n : ℕ) → more side n ≡ came side n) → AreOnWay past came w → AreOnWay past more w
-on_way_came past came more w same h = record {
+on_way_came : (sent : AllSent) (came more : Came) (w : World) → ((side : Side) (n : ℕ) → more side n ≡ came side n) → AreOnWay sent came w → AreOnWay sent more w
+on_way_came sent came more w same h = record {
   count = h.count;
-  each = λ side n x q at there. subst (λ c. IsWay (is_shut side (Some x)) (queue_of side q) (end_at side q) c (bytes_sent side n past)) (sym (same side n)) (h.each side n x q at there);
+  each = λ side n x q at there. subst (λ c. IsWay (is_shut side (Some x)) (queue_of side q) (end_at side q) c (sent side n)) (sym (same side n)) (h.each side n x q at there);
   none = λ side n at. (same side n ∙ (h.none side n at).0, (h.none side n at).1);
 }
 
@@ -179,16 +200,16 @@ same_side Up Down = inr (λ e. absurd cc)
 same_side Down Up = inr (λ e. absurd cc)
 
 -- of those on their way so many come
-abbrev came_more : (past : List Moment) → Came → Delivery → Came
-came_more past came d = came_after past came (Brings d)
+abbrev came_more : AllSent → Came → Delivery → Came
+came_more sent came d = came_after sent came (Brings d)
 
-taken_on_way : (past : List Moment) (came : Came) (w : World) (side : Side) (n now : ℕ) (a : Amount) (q : Wire) → AreOnWay past came w → numbered w.wires n ≡ Some q → AreOnWay past (came_more past came (delivery side n a now)) (with_taken w side n (count_of a (length (queue_of side q))) q)
-taken_on_way past came w side n now a q h at = record {
+taken_on_way : (sent : AllSent) (came : Came) (w : World) (side : Side) (n now : ℕ) (a : Amount) (q : Wire) → AreOnWay sent came w → numbered w.wires n ≡ Some q → AreOnWay sent (came_more sent came (delivery side n a now)) (with_taken w side n (count_of a (length (queue_of side q))) q)
+taken_on_way sent came w side n now a q h at = record {
   count = ar.count ∙ h.count;
   each = each;
   none = λ other m none. elim (same_or_not m n) [
     | inl e ↦ (let x = also_numbered w.wires w.core.sessions n q (sym h.count) at in nothing_there x.0 (sym none ∙ ap (numbered w.core.sessions) e ∙ x.1))
-    | inr apart ↦ (came_else came (delivery side n a now) (length (brought a (came side n) (bytes_sent side n past))) other m (λ s e. apart (sym e)) ∙ (h.none other m none).0, (h.none other m none).1)
+    | inr apart ↦ (came_else came (delivery side n a now) (length (brought a (came side n) (sent side n))) other m (λ s e. apart (sym e)) ∙ (h.none other m none).0, (h.none other m none).1)
   ];
 }
   where
@@ -201,161 +222,181 @@ taken_on_way past came w side n now a q h at = record {
     x : (x : Session) × (numbered w.core.sessions n ≡ Some x)
     x = also_numbered w.wires w.core.sessions n q (sym h.count) at
 
-    piece : take (count_of a (length (queue_of side q))) (drop (came side n) (bytes_sent side n past)) ≡ brought a (came side n) (bytes_sent side n past)
-    piece = ap (λ z. take (count_of a (length z)) (drop (came side n) (bytes_sent side n past))) (way_is (is_shut side (Some x.0)) (queue_of side q) (end_at side q) (came side n) (bytes_sent side n past) (h.each side n x.0 q x.1 at)).0
+    piece : take (count_of a (length (queue_of side q))) (drop (came side n) (sent side n)) ≡ brought a (came side n) (sent side n)
+    piece = ap (λ z. take (count_of a (length z)) (drop (came side n) (sent side n))) (way_is (is_shut side (Some x.0)) (queue_of side q) (end_at side q) (came side n) (sent side n) (h.each side n x.0 q x.1 at)).0
 
-    each : (other : Side) (m : ℕ) (y : Session) (r : Wire) → numbered w.core.sessions m ≡ Some y → numbered (with_numbered w.wires n (wire_with side (count_of a (length (queue_of side q))) q)) m ≡ Some r → IsWay (is_shut other (Some y)) (queue_of other r) (end_at other r) (came_more past came (delivery side n a now) other m) (bytes_sent other m past)
+    each : (other : Side) (m : ℕ) (y : Session) (r : Wire) → numbered w.core.sessions m ≡ Some y → numbered (with_numbered w.wires n (wire_with side (count_of a (length (queue_of side q))) q)) m ≡ Some r → IsWay (is_shut other (Some y)) (queue_of other r) (end_at other r) (came_more sent came (delivery side n a now) other m) (sent other m)
     each other m y r there is = elim (same_or_not m n) [
-      | inr apart ↦ subst (λ c. IsWay (is_shut other (Some y)) (queue_of other r) (end_at other r) c (bytes_sent other m past)) (sym (came_else came (delivery side n a now) (length (brought a (came side n) (bytes_sent side n past))) other m (λ s e. apart (sym e)))) (h.each other m y r there (sym (ar.others m apart) ∙ is))
+      | inr apart ↦ subst (λ c. IsWay (is_shut other (Some y)) (queue_of other r) (end_at other r) c (sent other m)) (sym (came_else came (delivery side n a now) (length (brought a (came side n) (sent side n))) other m (λ s e. apart (sym e)))) (h.each other m y r there (sym (ar.others m apart) ∙ is))
       | inl e ↦ here e (some_is r (wire_with side (count_of a (length (queue_of side q))) q) (sym is ∙ ap (numbered (with_numbered w.wires n (wire_with side (count_of a (length (queue_of side q))) q))) e ∙ ar.there)) (same_side side other)
     ]
       where
-        here : m ≡ n → r ≡ wire_with side (count_of a (length (queue_of side q))) q → (side ≡ other) ⊎ (side ≡ other → ⊥) → IsWay (is_shut other (Some y)) (queue_of other r) (end_at other r) (came_more past came (delivery side n a now) other m) (bytes_sent other m past)
+        here : m ≡ n → r ≡ wire_with side (count_of a (length (queue_of side q))) q → (side ≡ other) ⊎ (side ≡ other → ⊥) → IsWay (is_shut other (Some y)) (queue_of other r) (end_at other r) (came_more sent came (delivery side n a now) other m) (sent other m)
         here e r_is (inr apart) =
             let o = other_way side other (count_of a (length (queue_of side q))) q apart in
-            subst (λ c. IsWay (is_shut other (Some y)) (queue_of other r) (end_at other r) c (bytes_sent other m past)) (sym (came_else came (delivery side n a now) (length (brought a (came side n) (bytes_sent side n past))) other m (λ s z. apart s)))
-            (subst (λ z. IsWay (is_shut other (Some y)) z (end_at other r) (came other m) (bytes_sent other m past)) (sym (ap (queue_of other) r_is ∙ o.0))
-            (subst (λ (z : Unread). IsWay (is_shut other (Some y)) (queue_of other q) z (came other m) (bytes_sent other m past)) (sym (ap (end_at other) r_is ∙ o.1)) (h.each other m y q there (ap (numbered w.wires) e ∙ at))))
-        here e r_is (inl same) = subst (λ (o : Side). IsWay (is_shut o (Some y)) (queue_of o r) (end_at o r) (came_more past came (delivery side n a now) o m) (bytes_sent o m past)) same
-            (subst (λ (z : Wire). IsWay (is_shut side (Some y)) (queue_of side z) (end_at side z) (came_more past came (delivery side n a now) side m) (bytes_sent side m past)) (sym r_is)
-            (subst (λ (z : ℕ). IsWay (is_shut side (Some y)) (queue_of side (wire_with side (count_of a (length (queue_of side q))) q)) (end_at side (wire_with side (count_of a (length (queue_of side q))) q)) (came_more past came (delivery side n a now) side z) (bytes_sent side z past)) (sym e) own))
+            subst (λ c. IsWay (is_shut other (Some y)) (queue_of other r) (end_at other r) c (sent other m)) (sym (came_else came (delivery side n a now) (length (brought a (came side n) (sent side n))) other m (λ s z. apart s)))
+            (subst (λ z. IsWay (is_shut other (Some y)) z (end_at other r) (came other m) (sent other m)) (sym (ap (queue_of other) r_is ∙ o.0))
+            (subst (λ (z : Unread). IsWay (is_shut other (Some y)) (queue_of other q) z (came other m) (sent other m)) (sym (ap (end_at other) r_is ∙ o.1)) (h.each other m y q there (ap (numbered w.wires) e ∙ at))))
+        here e r_is (inl same) = subst (λ (o : Side). IsWay (is_shut o (Some y)) (queue_of o r) (end_at o r) (came_more sent came (delivery side n a now) o m) (sent o m)) same
+            (subst (λ (z : Wire). IsWay (is_shut side (Some y)) (queue_of side z) (end_at side z) (came_more sent came (delivery side n a now) side m) (sent side m)) (sym r_is)
+            (subst (λ (z : ℕ). IsWay (is_shut side (Some y)) (queue_of side (wire_with side (count_of a (length (queue_of side q))) q)) (end_at side (wire_with side (count_of a (length (queue_of side q))) q)) (came_more sent came (delivery side n a now) side z) (sent side z)) (sym e) own))
           where
             own_y : numbered w.core.sessions n ≡ Some y
             own_y = ap (numbered w.core.sessions) (sym e) ∙ there
 
-            own : IsWay (is_shut side (Some y)) (queue_of side (wire_with side (count_of a (length (queue_of side q))) q)) (end_at side (wire_with side (count_of a (length (queue_of side q))) q)) (came_more past came (delivery side n a now) side n) (bytes_sent side n past)
+            own : IsWay (is_shut side (Some y)) (queue_of side (wire_with side (count_of a (length (queue_of side q))) q)) (end_at side (wire_with side (count_of a (length (queue_of side q))) q)) (came_more sent came (delivery side n a now) side n) (sent side n)
             own =
                 let o = own_way side (count_of a (length (queue_of side q))) q in
-                subst (λ c. IsWay (is_shut side (Some y)) (queue_of side (wire_with side (count_of a (length (queue_of side q))) q)) (end_at side (wire_with side (count_of a (length (queue_of side q))) q)) c (bytes_sent side n past)) (ap (λ z. came side n + length z) piece ∙ sym (came_own came side n a now (length (brought a (came side n) (bytes_sent side n past)))))
-                (subst (λ z. IsWay (is_shut side (Some y)) z (end_at side (wire_with side (count_of a (length (queue_of side q))) q)) (came side n + length (take (count_of a (length (queue_of side q))) (drop (came side n) (bytes_sent side n past)))) (bytes_sent side n past)) (sym o.0)
-                (subst (λ (z : Unread). IsWay (is_shut side (Some y)) (drop (count_of a (length (queue_of side q))) (queue_of side q)) z (came side n + length (take (count_of a (length (queue_of side q))) (drop (came side n) (bytes_sent side n past)))) (bytes_sent side n past)) (sym o.1)
-                (way_taken (is_shut side (Some y)) (queue_of side q) (end_at side q) (came side n) (bytes_sent side n past) (count_of a (length (queue_of side q))) (h.each side n y q own_y at))))
+                subst (λ c. IsWay (is_shut side (Some y)) (queue_of side (wire_with side (count_of a (length (queue_of side q))) q)) (end_at side (wire_with side (count_of a (length (queue_of side q))) q)) c (sent side n)) (ap (λ z. came side n + length z) piece ∙ sym (came_own came side n a now (length (brought a (came side n) (sent side n)))))
+                (subst (λ z. IsWay (is_shut side (Some y)) z (end_at side (wire_with side (count_of a (length (queue_of side q))) q)) (came side n + length (take (count_of a (length (queue_of side q))) (drop (came side n) (sent side n)))) (sent side n)) (sym o.0)
+                (subst (λ (z : Unread). IsWay (is_shut side (Some y)) (drop (count_of a (length (queue_of side q))) (queue_of side q)) z (came side n + length (take (count_of a (length (queue_of side q))) (drop (came side n) (sent side n)))) (sent side n)) (sym o.1)
+                (way_taken (is_shut side (Some y)) (queue_of side q) (end_at side q) (came side n) (sent side n) (count_of a (length (queue_of side q))) (h.each side n y q own_y at))))
 
--- the moments of a delivery, and what is on its way then
-record Brought (past : List Moment) (came : Came) (k : Core) (d : Delivery) (own : List Moment) (v : World) : Type 0 where
-  delivered : IsDelivered (bytes_sent d.side d.session past) (came d.side d.session) k d own v.core
-  on_way : AreOnWay (past ++ own) (came_more past came d) v
+-- where an end isn't lost no record that it had was wrong
+whole_end : (sent : AllSent) (came : Came) (w : World) (n : ℕ) (q : Wire) → AreOnWay sent came w → AreRested w → numbered w.wires n ≡ Some q → q.server_end.spoilt ≡ None
+whole_end sent came w n q h rested at = elim (rested.each n q at).1 [
+  | inl none ↦ none
+  | inr (inl hung) ↦ ap (λ (z : Unread). z.spoilt) (subst (λ (b : Bool). IsWay b q.up q.server_end (came Up n) (sent Up n)) hung.2 (h.each Up n hung.0 q hung.1 at)).1
+  | inr (inr nowhere) ↦ nothing_there q (ap (numbered w.wires) (sym nowhere) ∙ at)
+]
 
-brings : (past : List Moment) (came : Came) (w : World) (side : Side) (n now : ℕ) (a : Amount) (q : Wire) → AreOnWay past came w → numbered w.wires n ≡ Some q
-    → Brought past came w.core (delivery side n a now) (moments_of (with_taken w side n (count_of a (length (queue_of side q))) q) (events_at side n now (count_of a (length (queue_of side q))) q)) (all_happened (with_taken w side n (count_of a (length (queue_of side q))) q) (events_at side n now (count_of a (length (queue_of side q))) q))
-brings past came w side n now a q h at =
+-- how far a run has come: what is on its way, and ends that hold no whole record
+record IsSoFar (sent : AllSent) (came : Came) (w : World) : Type 0 where
+  ways : AreOnWay sent came w
+  rested : AreRested w
+
+-- the moments of a delivery, and how far it brings the run
+record Brought (sent : AllSent) (came : Came) (k : Core) (d : Delivery) (own : List Moment) (v : World) : Type 0 where
+  delivered : IsDelivered (sent d.side d.session) (came d.side d.session) k d own v.core
+  on_way : AreOnWay (sent_all sent own) (came_more sent came d) v
+
+brings : (sent : AllSent) (came : Came) (w : World) (side : Side) (n now : ℕ) (a : Amount) (q : Wire) → IsSoFar sent came w → numbered w.wires n ≡ Some q
+    → Brought sent came w.core (delivery side n a now) (moments_of (with_taken w side n (count_of a (length (queue_of side q))) q) (events_at side n now (count_of a (length (queue_of side q))) q)) (all_happened (with_taken w side n (count_of a (length (queue_of side q))) q) (events_at side n now (count_of a (length (queue_of side q))) q))
+brings sent came w side n now a q h at =
     let v : World = with_taken w side n (count_of a (length (queue_of side q))) q in
     let es : List Event = events_at side n now (count_of a (length (queue_of side q))) q in
-    let x = also_numbered w.wires w.core.sessions n q (sym h.count) at in
-    let way = way_is (is_shut side (Some x.0)) (queue_of side q) (end_at side q) (came side n) (bytes_sent side n past) (h.each side n x.0 q x.1 at) in
+    let x = also_numbered w.wires w.core.sessions n q (sym h.ways.count) at in
+    let way = way_is (is_shut side (Some x.0)) (queue_of side q) (end_at side q) (came side n) (sent side n) (h.ways.each side n x.0 q x.1 at) in
     record {
       delivered = record {
         records = records_at side (count_of a (length (queue_of side q))) q;
         events = events_of v es;
         chain = chain_of v es;
-        complete = way_records (end_at side q) (take (count_of a (length (queue_of side q))) (queue_of side q)) (take (came side n) (bytes_sent side n past)) (brought a (came side n) (bytes_sent side n past)) way.1 (ap (λ z. take (count_of a (length z)) z) way.0);
+        complete = records side (take (came side n) (sent side n)) (brought a (came side n) (sent side n)) (count_of a (length (queue_of side q))) way.1 (ap (λ z. take (count_of a (length z)) z) way.0);
       };
-      on_way = on_way_all past (came_more past came (delivery side n a now)) v es (taken_on_way past came w side n now a q h at);
+      on_way = on_way_all sent (came_more sent came (delivery side n a now)) v es (taken_on_way sent came w side n now a q h.ways at);
     }
+  where
+    records : (side : Side) (first second : List ℕ) (count : ℕ) → end_at side q ≡ end_of first → take count (queue_of side q) ≡ second → records_in side (first ++ second) ≡ records_in side first ++ records_at side count q
+    records Up first second count e f = way_records Up q.server_end (take count q.up) first second e f (whole_end sent came w n q h.ways h.rested at)
+    records Down first second count e f = down_records q.client_end (take count q.down) first second e f
 
 -- where nothing is on its way nothing comes
-brings_none : (past : List Moment) (came : Came) (w : World) (d : Delivery) → AreOnWay past came w → drop (came d.side d.session) (bytes_sent d.side d.session past) ≡ [] → Brought past came w.core d [] w
-brings_none past came w d h none = record {
+brings_none : (sent : AllSent) (came : Came) (w : World) (d : Delivery) → AreOnWay sent came w → drop (came d.side d.session) (sent d.side d.session) ≡ [] → Brought sent came w.core d [] w
+brings_none sent came w d h none = record {
   delivered = record {
     records = [];
     events = refl;
     chain = refl;
-    complete = ap records_in (ap (λ z. take (came d.side d.session) (bytes_sent d.side d.session past) ++ z) nothing ∙ append-nil (take (came d.side d.session) (bytes_sent d.side d.session past))) ∙ sym (append-nil (records_in (take (came d.side d.session) (bytes_sent d.side d.session past))));
+    complete = ap (records_in d.side) (ap (λ z. take (came d.side d.session) (sent d.side d.session) ++ z) nothing ∙ append-nil (take (came d.side d.session) (sent d.side d.session))) ∙ sym (append-nil (records_in d.side (take (came d.side d.session) (sent d.side d.session))));
   };
-  on_way = subst (λ (z : List Moment). AreOnWay z (came_more past came d) w) (sym (append-nil past)) (on_way_came past came (came_more past came d) w (λ side n. ap (λ z. came_with came d (length z) side n) nothing ∙ came_none came d side n) h);
+  on_way = on_way_came sent came (came_more sent came d) w (λ side n. ap (λ z. came_with came d (length z) side n) nothing ∙ came_none came d side n) h;
 }
   where
-    nothing : brought d.amount (came d.side d.session) (bytes_sent d.side d.session past) ≡ []
+    nothing : brought d.amount (came d.side d.session) (sent d.side d.session) ≡ []
     nothing = ap (λ z. take (count_of d.amount (length z)) z) none ∙ take_none (count_of d.amount 0)
 
 -- also where there is no such session
-brings_nowhere : (past : List Moment) (came : Came) (w : World) (d : Delivery) → AreOnWay past came w → numbered w.wires d.session ≡ None → Brought past came w.core d [] w
-brings_nowhere past came w d h at = brings_none past came w d h (by (numbered w.core.sessions d.session) refl)
+brings_nowhere : (sent : AllSent) (came : Came) (w : World) (d : Delivery) → AreOnWay sent came w → numbered w.wires d.session ≡ None → Brought sent came w.core d [] w
+brings_nowhere sent came w d h at = brings_none sent came w d h (by (numbered w.core.sessions d.session) refl)
   where
-    by : (o : Option Session) → numbered w.core.sessions d.session ≡ o → drop (came d.side d.session) (bytes_sent d.side d.session past) ≡ []
+    by : (o : Option Session) → numbered w.core.sessions d.session ≡ o → drop (came d.side d.session) (sent d.side d.session) ≡ []
     by None none = ap (drop (came d.side d.session)) (h.none d.side d.session none).1 ∙ drop_none (came d.side d.session)
     by (Some x) some = (let q = also_numbered w.core.sessions w.wires d.session x h.count some in nothing_there q.0 (sym at ∙ q.1))
 
-up_brings : (past : List Moment) (came : Came) (w : World) (n now : ℕ) (a : Amount) → AreOnWay past came w → Brought past came w.core (delivery Up n a now) (up_moments w n (count_of a (up_length (numbered w.wires n))) now) (up_some w n (count_of a (up_length (numbered w.wires n))) now)
-up_brings past came w n now a h = by (numbered w.wires n) refl
+up_brings : (sent : AllSent) (came : Came) (w : World) (n now : ℕ) (a : Amount) → IsSoFar sent came w → Brought sent came w.core (delivery Up n a now) (up_moments w n (count_of a (up_length (numbered w.wires n))) now) (up_some w n (count_of a (up_length (numbered w.wires n))) now)
+up_brings sent came w n now a h = by (numbered w.wires n) refl
   where
-    by : (o : Option Wire) → numbered w.wires n ≡ o → Brought past came w.core (delivery Up n a now) (up_moments_at w n (count_of a (up_length o)) now o) (up_at w n (count_of a (up_length o)) now o)
-    by None at = brings_nowhere past came w (delivery Up n a now) h at
-    by (Some q) at = brings past came w Up n now a q h at
+    by : (o : Option Wire) → numbered w.wires n ≡ o → Brought sent came w.core (delivery Up n a now) (up_moments_at w n (count_of a (up_length o)) now o) (up_at w n (count_of a (up_length o)) now o)
+    by None at = brings_nowhere sent came w (delivery Up n a now) h.ways at
+    by (Some q) at = brings sent came w Up n now a q h at
 
-down_brings : (past : List Moment) (came : Came) (w : World) (n now : ℕ) (a : Amount) → AreOnWay past came w → Brought past came w.core (delivery Down n a now) (down_moments w n (count_of a (down_length (numbered w.wires n))) now) (down_some w n (count_of a (down_length (numbered w.wires n))) now)
-down_brings past came w n now a h = by (numbered w.wires n) refl
+down_brings : (sent : AllSent) (came : Came) (w : World) (n now : ℕ) (a : Amount) → IsSoFar sent came w → Brought sent came w.core (delivery Down n a now) (down_moments w n (count_of a (down_length (numbered w.wires n))) now) (down_some w n (count_of a (down_length (numbered w.wires n))) now)
+down_brings sent came w n now a h = by (numbered w.wires n) refl
   where
-    by : (o : Option Wire) → numbered w.wires n ≡ o → Brought past came w.core (delivery Down n a now) (down_moments_at w n (count_of a (down_length o)) now o) (down_at w n (count_of a (down_length o)) now o)
-    by None at = brings_nowhere past came w (delivery Down n a now) h at
-    by (Some q) at = brings past came w Down n now a q h at
+    by : (o : Option Wire) → numbered w.wires n ≡ o → Brought sent came w.core (delivery Down n a now) (down_moments_at w n (count_of a (down_length o)) now o) (down_at w n (count_of a (down_length o)) now o)
+    by None at = brings_nowhere sent came w (delivery Down n a now) h.ways at
+    by (Some q) at = brings sent came w Down n now a q h at
 
 -- ---- what a line has
 
 -- so the rest of a run goes on
-abbrev Onward : List Part → (ms : List Moment) → (last : Core) → (past : List Moment) → World → Type 0
-Onward ps ms last past w = (came : Came) → AreOnWay past came w → IsRunOf past came w.core ps ms last
+abbrev Onward : List Part → (ms : List Moment) → (last : Core) → World → Type 0
+Onward ps ms last w = (sent : AllSent) (came : Came) → IsSoFar sent came w → IsRunOf sent came w.core ps ms last
 
-goes_brought : (past : List Moment) (came : Came) (w v : World) (d : Delivery) (own rest : List Moment) (ps : List Part) (last : Core) → Brought past came w.core d own v → Onward ps rest last (past ++ own) v → IsRunOf past came w.core (Brings d ∷ ps) (own ++ rest) last
-goes_brought past came w v d own rest ps last b go = (own, rest, v.core, refl, b.delivered, go (came_more past came d) b.on_way)
+goes_brought : (sent : AllSent) (came : Came) (w v : World) (d : Delivery) (own rest : List Moment) (ps : List Part) (last : Core) → Brought sent came w.core d own v → AreRested v → Onward ps rest last v → IsRunOf sent came w.core (Brings d ∷ ps) (own ++ rest) last
+goes_brought sent came w v d own rest ps last b rested go = (own, rest, v.core, refl, b.delivered, go (sent_all sent own) (came_more sent came d) (record { ways = b.on_way; rested = rested }))
 
-goes_none : (past : List Moment) (came : Came) (w v : World) (p : Part) (rest : List Moment) (ps : List Part) (last : Core) → HasMoments past came w.core p [] v.core → AreOnWay past (came_after past came p) v → Onward ps rest last (past ++ []) v → IsRunOf past came w.core (p ∷ ps) rest last
-goes_none past came w v p rest ps last has h go = ([], rest, v.core, refl, has, go (came_after past came p) (subst (λ (z : List Moment). AreOnWay z (came_after past came p) v) (sym (append-nil past)) h))
+-- a part without a moment
+goes_none : (sent : AllSent) (came : Came) (w v : World) (p : Part) (rest : List Moment) (ps : List Part) (last : Core) → HasMoments sent came w.core p [] v.core → IsSoFar (sent_after sent w.core p []) (came_after sent came p) v → Onward ps rest last v → IsRunOf sent came w.core (p ∷ ps) rest last
+goes_none sent came w v p rest ps last has h go = ([], rest, v.core, refl, has, go (sent_after sent w.core p []) (came_after sent came p) h)
 
-round_goes : (past : List Moment) (came : Came) (w : World) (n server at : ℕ) (rest : List Moment) (ps : List Part) (last : Core) → AreOnWay past came w → Onward ps rest last (past ++ round_moments w n server at) (round w n server at)
-    → IsRunOf past came w.core (rounds_of 1 n server at ++ ps) (round_moments w n server at ++ rest) last
-round_goes past came w n server at rest ps last h go =
+round_goes : (sent : AllSent) (came : Came) (w : World) (n server at : ℕ) (rest : List Moment) (ps : List Part) (last : Core) → IsSoFar sent came w → Onward ps rest last (round w n server at)
+    → IsRunOf sent came w.core (rounds_of 1 n server at ++ ps) (round_moments w n server at ++ rest) last
+round_goes sent came w n server at rest ps last h go =
     let v : World = up_all w n server in
     let ms : List Moment = up_moments w n (up_length (numbered w.wires n)) server in
     let ns : List Moment = down_moments v n (down_length (numbered v.wires n)) at in
-    subst (λ (z : List Moment). IsRunOf past came w.core (rounds_of 1 n server at ++ ps) z last) (sym (append_assoc ms ns rest))
-    (goes_brought past came w v (delivery Up n amount.All server) ms (ns ++ rest) (Brings (delivery Down n amount.All at) ∷ ps) last (up_brings past came w n server amount.All h)
-    (λ more on. goes_brought (past ++ ms) more v (round w n server at) (delivery Down n amount.All at) ns rest ps last (down_brings (past ++ ms) more v n at amount.All on) (λ most then. subst (λ (z : List Moment). IsRunOf z most (round w n server at).core ps rest last) (sym (append_assoc past ms ns)) (go most (subst (λ (z : List Moment). AreOnWay z most (round w n server at)) (append_assoc past ms ns) then)))))
+    let rested : AreRested v = rests_up w n (up_length (numbered w.wires n)) server h.rested in
+    subst (λ (z : List Moment). IsRunOf sent came w.core (rounds_of 1 n server at ++ ps) z last) (sym (append_assoc ms ns rest))
+    (goes_brought sent came w v (delivery Up n amount.All server) ms (ns ++ rest) (Brings (delivery Down n amount.All at) ∷ ps) last (up_brings sent came w n server amount.All h) rested
+    (λ then_ more on. goes_brought then_ more v (round w n server at) (delivery Down n amount.All at) ns rest ps last (down_brings then_ more v n at amount.All on) (rests_down v n (down_length (numbered v.wires n)) at rested) go))
 
 -- rounds that bring nothing
-still_goes : (k : ℕ) (past : List Moment) (came : Came) (w : World) (n server at : ℕ) (rest : List Moment) (ps : List Part) (last : Core) → ((side : Side) (came : Came) → AreOnWay past came w → drop (came side n) (bytes_sent side n past) ≡ []) → AreOnWay past came w → Onward ps rest last past w
-    → IsRunOf past came w.core (rounds_of k n server at ++ ps) rest last
-still_goes zero past came w n server at rest ps last none h go = go came h
-still_goes (suc k) past came w n server at rest ps last none h go = nothing came w Up server (Brings (delivery Down n amount.All at) ∷ (rounds_of k n server at ++ ps)) h (λ more on. nothing more w Down at (rounds_of k n server at ++ ps) on (λ most then. still_goes k past most w n server at rest ps last none then go))
+still_goes : (k : ℕ) (sent : AllSent) (came : Came) (w : World) (n server at : ℕ) (rest : List Moment) (ps : List Part) (last : Core) → ((side : Side) (sent : AllSent) (came : Came) → AreOnWay sent came w → drop (came side n) (sent side n) ≡ []) → IsSoFar sent came w → Onward ps rest last w
+    → IsRunOf sent came w.core (rounds_of k n server at ++ ps) rest last
+still_goes zero sent came w n server at rest ps last none h go = go sent came h
+still_goes (suc k) sent came w n server at rest ps last none h go =
+    nothing sent came Up server (Brings (delivery Down n amount.All at) ∷ (rounds_of k n server at ++ ps)) h
+    (λ then_ more on. nothing then_ more Down at (rounds_of k n server at ++ ps) on (λ last_ most end. still_goes k last_ most w n server at rest ps last none end go))
   where
-    nothing : (came : Came) (v : World) (side : Side) (now : ℕ) (qs : List Part) → AreOnWay past came w → Onward qs rest last past w → IsRunOf past came w.core (Brings (delivery side n amount.All now) ∷ qs) rest last
-    nothing came v side now qs h go = goes_brought past came w w (delivery side n amount.All now) [] rest qs last (brings_none past came w (delivery side n amount.All now) h (none side came h)) (λ more on. subst (λ (z : List Moment). IsRunOf z more w.core qs rest last) (sym (append-nil past)) (go more (subst (λ (z : List Moment). AreOnWay z more w) (append-nil past) on)))
+    nothing : (sent : AllSent) (came : Came) (side : Side) (now : ℕ) (qs : List Part) → IsSoFar sent came w → Onward qs rest last w → IsRunOf sent came w.core (Brings (delivery side n amount.All now) ∷ qs) rest last
+    nothing sent came side now qs h go = goes_brought sent came w w (delivery side n amount.All now) [] rest qs last (brings_none sent came w (delivery side n amount.All now) h.ways (none side sent came h.ways)) h.rested go
 
-still_none : (past : List Moment) (w : World) (n : ℕ) → is_still w n ≡ true → (side : Side) (came : Came) → AreOnWay past came w → drop (came side n) (bytes_sent side n past) ≡ []
-still_none past w n still side came h = by (numbered w.wires n) refl still
+still_none : (w : World) (n : ℕ) → is_still w n ≡ true → (side : Side) (sent : AllSent) (came : Came) → AreOnWay sent came w → drop (came side n) (sent side n) ≡ []
+still_none w n still side sent came h = by (numbered w.wires n) refl still
   where
     queue : (q : Wire) (side : Side) → is_still_at (Some q) ≡ true → queue_of side q ≡ []
     queue q Up e = is_empty q.up (both_true _ _ e).0
     queue q Down e = is_empty q.down (both_true _ _ e).1
 
-    nowhere : (o : Option Session) → numbered w.core.sessions n ≡ o → numbered w.wires n ≡ None → drop (came side n) (bytes_sent side n past) ≡ []
+    nowhere : (o : Option Session) → numbered w.core.sessions n ≡ o → numbered w.wires n ≡ None → drop (came side n) (sent side n) ≡ []
     nowhere None none at = ap (drop (came side n)) (h.none side n none).1 ∙ drop_none (came side n)
     nowhere (Some x) some at = (let q = also_numbered w.core.sessions w.wires n x h.count some in nothing_there q.0 (sym at ∙ q.1))
 
-    by : (o : Option Wire) → numbered w.wires n ≡ o → is_still_at o ≡ true → drop (came side n) (bytes_sent side n past) ≡ []
+    by : (o : Option Wire) → numbered w.wires n ≡ o → is_still_at o ≡ true → drop (came side n) (sent side n) ≡ []
     by None at e = nowhere (numbered w.core.sessions n) refl at
     by (Some q) at e =
         let x = also_numbered w.wires w.core.sessions n q (sym h.count) at in
-        sym (way_is (is_shut side (Some x.0)) (queue_of side q) (end_at side q) (came side n) (bytes_sent side n past) (h.each side n x.0 q x.1 at)).0 ∙ queue q side e
+        sym (way_is (is_shut side (Some x.0)) (queue_of side q) (end_at side q) (came side n) (sent side n) (h.each side n x.0 q x.1 at)).0 ∙ queue q side e
 
-passes_go : (k : ℕ) (past : List Moment) (came : Came) (w : World) (n server at : ℕ) (rest : List Moment) (ps : List Part) (last : Core) → AreOnWay past came w → Onward ps rest last (past ++ passes_moments k w n server at) (passes k w n server at)
-    → IsRunOf past came w.core (rounds_of k n server at ++ ps) (passes_moments k w n server at ++ rest) last
-passes_go zero past came w n server at rest ps last h go = subst (λ (z : List Moment). IsRunOf z came w.core ps rest last) (append-nil past) (go came (subst (λ (z : List Moment). AreOnWay z came w) (sym (append-nil past)) h))
-passes_go (suc k) past came w n server at rest ps last h go =
-    by (is_still w n) refl (λ before more then onward. passes_go k before more (round w n server at) n server at rest ps last then onward) go
+passes_go : (k : ℕ) (sent : AllSent) (came : Came) (w : World) (n server at : ℕ) (rest : List Moment) (ps : List Part) (last : Core) → IsSoFar sent came w → Onward ps rest last (passes k w n server at)
+    → IsRunOf sent came w.core (rounds_of k n server at ++ ps) (passes_moments k w n server at ++ rest) last
+passes_go zero sent came w n server at rest ps last h go = go sent came h
+passes_go (suc k) sent came w n server at rest ps last h go =
+    by (is_still w n) refl (λ before more then_ onward. passes_go k before more (round w n server at) n server at rest ps last then_ onward) go
   where
     by : (b : Bool) → is_still w n ≡ b
-        → ((before : List Moment) (more : Came) → AreOnWay before more (round w n server at) → Onward ps rest last (before ++ passes_moments k (round w n server at) n server at) (passes k (round w n server at) n server at)
+        → ((before : AllSent) (more : Came) → IsSoFar before more (round w n server at) → Onward ps rest last (passes k (round w n server at) n server at)
         → IsRunOf before more (round w n server at).core (rounds_of k n server at ++ ps) (passes_moments k (round w n server at) n server at ++ rest) last)
-        → Onward ps rest last (past ++ elim b as (λ (x : Bool). List Moment) [ true ↦ [] | false ↦ round_moments w n server at ++ passes_moments k (round w n server at) n server at ]) (elim b as (λ (x : Bool). World) [ true ↦ w | false ↦ passes k (round w n server at) n server at ])
-        → IsRunOf past came w.core (rounds_of (suc k) n server at ++ ps) ((elim b as (λ (x : Bool). List Moment) [ true ↦ [] | false ↦ round_moments w n server at ++ passes_moments k (round w n server at) n server at ]) ++ rest) last
-    by true still on go = still_goes (suc k) past came w n server at rest ps last (still_none past w n still) h (λ more then. subst (λ (z : List Moment). IsRunOf z more w.core ps rest last) (append-nil past) (go more (subst (λ (z : List Moment). AreOnWay z more w) (sym (append-nil past)) then)))
+        → Onward ps rest last (elim b as (λ (x : Bool). World) [ true ↦ w | false ↦ passes k (round w n server at) n server at ])
+        → IsRunOf sent came w.core (rounds_of (suc k) n server at ++ ps) ((elim b as (λ (x : Bool). List Moment) [ true ↦ [] | false ↦ round_moments w n server at ++ passes_moments k (round w n server at) n server at ]) ++ rest) last
+    by true still on go = still_goes (suc k) sent came w n server at rest ps last (still_none w n still) h go
     by false still on go =
         let ms : List Moment = round_moments w n server at in
         let ns : List Moment = passes_moments k (round w n server at) n server at in
-        subst (λ (z : List Moment). IsRunOf past came w.core (rounds_of (suc k) n server at ++ ps) z last) (sym (append_assoc ms ns rest))
-        (round_goes past came w n server at (ns ++ rest) (rounds_of k n server at ++ ps) last h
-        (λ more then. on (past ++ ms) more then (λ most after. subst (λ (z : List Moment). IsRunOf z most (passes k (round w n server at) n server at).core ps rest last) (sym (append_assoc past ms ns)) (go most (subst (λ (z : List Moment). AreOnWay z most (passes k (round w n server at) n server at)) (append_assoc past ms ns) after)))))
+        subst (λ (z : List Moment). IsRunOf sent came w.core (rounds_of (suc k) n server at ++ ps) z last) (sym (append_assoc ms ns rest))
+        (round_goes sent came w n server at (ns ++ rest) (rounds_of k n server at ++ ps) last h (λ before more then_. on before more then_ go))
 
 -- ---- a line before the first event
 
@@ -381,11 +422,14 @@ file_place w s spot content t e = refused_line Grammar t e
 
 -- ---- a line that changes an index or a cache
 
-on_way_same : (past : List Moment) (came : Came) (w v : World) → v.wires ≡ w.wires → v.core.sessions ≡ w.core.sessions → AreOnWay past came w → AreOnWay past came v
-on_way_same past came w v wires sessions h = record {
-  count = ap length wires ∙ h.count ∙ ap length (sym sessions);
-  each = λ side n x q at there. h.each side n x q (ap (λ (z : List Session). numbered z n) (sym sessions) ∙ at) (ap (λ (z : List Wire). numbered z n) (sym wires) ∙ there);
-  none = λ side n at. h.none side n (ap (λ (z : List Session). numbered z n) (sym sessions) ∙ at);
+so_same : (sent : AllSent) (came : Came) (w v : World) → v.wires ≡ w.wires → v.core.sessions ≡ w.core.sessions → IsSoFar sent came w → IsSoFar sent came v
+so_same sent came w v wires sessions h = record {
+  ways = record {
+    count = ap length wires ∙ h.ways.count ∙ ap length (sym sessions);
+    each = λ side n x q at there. h.ways.each side n x q (ap (λ (z : List Session). numbered z n) (sym sessions) ∙ at) (ap (λ (z : List Wire). numbered z n) (sym wires) ∙ there);
+    none = λ side n at. h.ways.none side n (ap (λ (z : List Session). numbered z n) (sym sessions) ∙ at);
+  };
+  rested = subst (λ (zs : List Session). AreRestedBut 0 zs v.wires) (sym sessions) (subst (AreRestedBut 0 w.core.sessions) (sym wires) h.rested);
 }
 
 client_is : (k : Core) (n : ℕ) (f : client.State → client.State) (o : Option Seat) → with_client k n f o ≡ client_with k n f o
@@ -397,84 +441,153 @@ client_sessions : (k : Core) (n : ℕ) (f : client.State → client.State) (o : 
 client_sessions k n f None = refl
 client_sessions k n f (Some seat) = refl
 
-forge_changes : (w : World) (past : List Moment) (came : Came) (who_ : Who) (key file offset count : ℕ) (rest : List Moment) (ps : List Part) (last : Core) → AreOnWay past came w → Onward ps rest last (past ++ []) (turned w (turn_of 0 (line.Forge who_ key file offset count)))
-    → IsRunOf past came w.core (Changes (line.Forge who_ key file offset count) ∷ ps) rest last
-forge_changes w past came who.Server key file offset count rest ps last h go = goes_none past came w _ (Changes (line.Forge who.Server key file offset count)) rest ps last (refl, refl) (on_way_same past came w _ refl refl h) go
-forge_changes w past came (who.Client c) key file offset count rest ps last h go = goes_none past came w _ (Changes (line.Forge (who.Client c) key file offset count)) rest ps last (refl, client_is w.core c _ (numbered w.core.seats c)) (on_way_same past came w _ refl (client_sessions w.core c _ (numbered w.core.seats c)) h) go
+forge_changes : (w : World) (sent : AllSent) (came : Came) (who_ : Who) (key file offset count : ℕ) (rest : List Moment) (ps : List Part) (last : Core) → IsSoFar sent came w → Onward ps rest last (turned w (turn_of 0 (line.Forge who_ key file offset count)))
+    → IsRunOf sent came w.core (Changes (line.Forge who_ key file offset count) ∷ ps) rest last
+forge_changes w sent came who.Server key file offset count rest ps last h go = goes_none sent came w _ (Changes (line.Forge who.Server key file offset count)) rest ps last (refl, refl) (so_same sent came w _ refl refl h) go
+forge_changes w sent came (who.Client c) key file offset count rest ps last h go = goes_none sent came w _ (Changes (line.Forge (who.Client c) key file offset count)) rest ps last (refl, client_is w.core c _ (numbered w.core.seats c)) (so_same sent came w _ refl (client_sessions w.core c _ (numbered w.core.seats c)) h) go
 
-clear_changes : (w : World) (past : List Moment) (came : Came) (who_ : Who) (rest : List Moment) (ps : List Part) (last : Core) → AreOnWay past came w → Onward ps rest last (past ++ []) (turned w (turn_of 0 (line.Clear who_)))
-    → IsRunOf past came w.core (Changes (line.Clear who_) ∷ ps) rest last
-clear_changes w past came who.Server rest ps last h go = goes_none past came w _ (Changes (line.Clear who.Server)) rest ps last (refl, refl) (on_way_same past came w _ refl refl h) go
-clear_changes w past came (who.Client c) rest ps last h go = goes_none past came w _ (Changes (line.Clear (who.Client c))) rest ps last (refl, client_is w.core c _ (numbered w.core.seats c)) (on_way_same past came w _ refl (client_sessions w.core c _ (numbered w.core.seats c)) h) go
+clear_changes : (w : World) (sent : AllSent) (came : Came) (who_ : Who) (rest : List Moment) (ps : List Part) (last : Core) → IsSoFar sent came w → Onward ps rest last (turned w (turn_of 0 (line.Clear who_)))
+    → IsRunOf sent came w.core (Changes (line.Clear who_) ∷ ps) rest last
+clear_changes w sent came who.Server rest ps last h go = goes_none sent came w _ (Changes (line.Clear who.Server)) rest ps last (refl, refl) (so_same sent came w _ refl refl h) go
+clear_changes w sent came (who.Client c) rest ps last h go = goes_none sent came w _ (Changes (line.Clear (who.Client c))) rest ps last (refl, client_is w.core c _ (numbered w.core.seats c)) (so_same sent came w _ refl (client_sessions w.core c _ (numbered w.core.seats c)) h) go
 
 -- ---- any line
 
+-- a session that is no client's sends bytes
+raw_on_way : (sent : AllSent) (came : Came) (w : World) (n : ℕ) (bytes : List ℕ) → AreOnWay sent came w → AreOnWay (sent_with sent w.core n bytes) came (raw_put w n bytes)
+raw_on_way sent came w n bytes h = by (numbered w.core.sessions n) refl (numbered w.wires n) refl
+  where
+    more : (side : Side) → ℕ → List ℕ
+    more side m = sent_with sent w.core n bytes side m
+
+    apart_sent : (side : Side) (m : ℕ) → (n ≡ m → ⊥) → more side m ≡ sent side m
+    apart_sent Up m apart = ap (λ (b : Bool). elim b as (λ (z : Bool). List ℕ) [ true ↦ unless_shut (is_shut Up (numbered w.core.sessions n)) (sent Up m ++ bytes) | false ↦ sent Up m ]) (ne_eqb n m apart)
+    apart_sent Down m apart = refl
+
+    own_sent : (m : ℕ) → n ≡ m → more Up m ≡ unless_shut (is_shut Up (numbered w.core.sessions m)) (sent Up m ++ bytes)
+    own_sent m e =
+        ap (λ (b : Bool). elim b as (λ (z : Bool). List ℕ) [ true ↦ unless_shut (is_shut Up (numbered w.core.sessions n)) (sent Up m ++ bytes) | false ↦ sent Up m ]) (eq-eqb n m e)
+        ∙ ap (λ (i : ℕ). unless_shut (is_shut Up (numbered w.core.sessions i)) (sent Up m ++ bytes)) e
+
+    none : (side : Side) (m : ℕ) → numbered w.core.sessions m ≡ None → (came side m ≡ 0) × (more side m ≡ [])
+    none Down m at = h.none Down m at
+    none Up m at = elim (same_or_not n m) [
+      | inl e ↦ ((h.none Up m at).0, own_sent m e ∙ ap (λ (o : Option Session). unless_shut (is_shut Up o) (sent Up m ++ bytes)) at)
+      | inr apart ↦ ((h.none Up m at).0, apart_sent Up m apart ∙ (h.none Up m at).1)
+    ]
+
+    else_way : (side : Side) (m : ℕ) (y : Session) (r : Wire) → numbered w.core.sessions m ≡ Some y → numbered w.wires m ≡ Some r → (n ≡ m → ⊥) → IsWay (is_shut side (Some y)) (queue_of side r) (end_at side r) (came side m) (more side m)
+    else_way side m y r at there apart = subst (IsWay (is_shut side (Some y)) (queue_of side r) (end_at side r) (came side m)) (sym (apart_sent side m apart)) (h.each side m y r at there)
+
+    -- it is put behind what is on its way up
+    put_way : (x : Session) (q : Wire) → numbered w.core.sessions n ≡ Some x → numbered w.wires n ≡ Some q → (side : Side) (m : ℕ) (y : Session) (r : Wire) → numbered w.core.sessions m ≡ Some y → n ≡ m → r ≡ record q { up = unless x.hung q.up bytes } → IsWay (is_shut side (Some y)) (queue_of side r) (end_at side r) (came side m) (more side m)
+    put_way x q some wire Down m y r at e r_is = subst (λ (v : Wire). IsWay y.cut v.down v.client_end (came Down m) (sent Down m)) (sym r_is) (h.each Down m y q at (ap (numbered w.wires) (sym e) ∙ wire))
+    put_way x q some wire Up m y r at e r_is =
+        let was : IsWay y.hung q.up q.server_end (came Up m) (sent Up m) = h.each Up m y q at (ap (numbered w.wires) (sym e) ∙ wire) in
+        let same : y.hung ≡ x.hung = ap (λ (z : Session). z.hung) (some_is y x (sym at ∙ ap (numbered w.core.sessions) (sym e) ∙ some)) in
+        subst (IsWay y.hung r.up r.server_end (came Up m)) (sym (own_sent m e ∙ ap (λ (o : Option Session). unless_shut (is_shut Up o) (sent Up m ++ bytes)) at))
+        (subst (λ (v : Wire). IsWay y.hung v.up v.server_end (came Up m) (unless_shut y.hung (sent Up m ++ bytes))) (sym r_is)
+        (subst (λ (b : Bool). IsWay y.hung (unless b q.up bytes) q.server_end (came Up m) (unless_shut y.hung (sent Up m ++ bytes))) same
+        (way_next y.hung q.up q.server_end (came Up m) (sent Up m) bytes
+        (λ lost. let z = subst (λ (b : Bool). IsWay b q.up q.server_end (came Up m) (sent Up m)) lost was in (z.0, z.1))
+        (λ stands. subst (λ (b : Bool). IsWay b q.up q.server_end (came Up m) (sent Up m)) stands was))))
+
+    by : (o : Option Session) → numbered w.core.sessions n ≡ o → (p : Option Wire) → numbered w.wires n ≡ p → AreOnWay (sent_with sent w.core n bytes) came (record w { wires = raw_put_in w.wires n bytes o p })
+    by None missing p wire = record {
+      count = h.count;
+      each = λ side m y r at there. else_way side m y r at there (λ e. nothing_there y (sym missing ∙ ap (numbered w.core.sessions) e ∙ at));
+      none = none;
+    }
+    by (Some x) some None wire = (let q = also_numbered w.core.sessions w.wires n x h.count some in nothing_there q.0 (sym wire ∙ q.1))
+    by (Some x) some (Some q) wire =
+        let v : Wire = record q { up = unless x.hung q.up bytes } in
+        let ar = around_with w.wires n q v wire in
+        record {
+          count = ar.count ∙ h.count;
+          each = λ side m y r at there. elim (same_or_not n m) [
+            | inr apart ↦ else_way side m y r at (sym (ar.others m (λ e. apart (sym e))) ∙ there) apart
+            | inl e ↦ put_way x q some wire side m y r at e (some_is r v (sym there ∙ ap (numbered (with_numbered w.wires n v)) (sym e) ∙ ar.there))
+          ];
+          none = none;
+        }
+
 -- a line that has one event
-goes_told : (past : List Moment) (came : Came) (w : World) (e : Event) (rest : List Moment) (ps : List Part) (last : Core) → AreOnWay past came w → Onward ps rest last (past ++ moments_of (at_events w) (e ∷ [])) (happened (at_events w) e) → IsRunOf past came w.core (Tells e ∷ ps) (moments_of (at_events w) (e ∷ []) ++ rest) last
-goes_told past came w e rest ps last h go = (moments_of (at_events w) (e ∷ []), rest, (happened (at_events w) e).core, refl, (refl, refl), go came (on_way_next past came (at_events w) e (on_way_same past came w (at_events w) refl refl h)))
+goes_told : (sent : AllSent) (came : Came) (w : World) (e : Event) (rest : List Moment) (ps : List Part) (last : Core) → IsSoFar sent came w → Onward ps rest last (happened (at_events w) e) → IsRunOf sent came w.core (Tells e ∷ ps) (moments_of (at_events w) (e ∷ []) ++ rest) last
+goes_told sent came w e rest ps last h go =
+    let on = so_same sent came w (at_events w) refl refl h in (
+      moments_of (at_events w) (e ∷ []),
+      rest,
+      (happened (at_events w) e).core,
+      refl,
+      (refl, refl),
+      go (sent_then sent (moment w.core e)) came (record { ways = on_way_next sent came (at_events w) e on.ways; rested = rests_happened (at_events w) e on.rested }),
+    )
 
 -- and one that has none
-goes_idle : (past : List Moment) (came : Came) (w v : World) (rest : List Moment) (ps : List Part) (last : Core) → v.core ≡ w.core → v.wires ≡ w.wires → AreOnWay past came w → Onward ps rest last (past ++ []) v → IsRunOf past came w.core ps rest last
-goes_idle past came w v rest ps last core wires h go = subst (λ (k : Core). IsRunOf past came k ps rest last) core (subst (λ (z : List Moment). IsRunOf z came v.core ps rest last) (append-nil past) (go came (subst (λ (z : List Moment). AreOnWay z came v) (sym (append-nil past)) (on_way_same past came w v wires (ap (λ (k : Core). k.sessions) core) h))))
+goes_idle : (sent : AllSent) (came : Came) (w v : World) (rest : List Moment) (ps : List Part) (last : Core) → v.core ≡ w.core → v.wires ≡ w.wires → IsSoFar sent came w → Onward ps rest last v → IsRunOf sent came w.core ps rest last
+goes_idle sent came w v rest ps last core wires h go = subst (λ (k : Core). IsRunOf sent came k ps rest last) core (go sent came (so_same sent came w v wires (ap (λ (k : Core). k.sessions) core) h))
 
-line_goes : (past : List Moment) (came : Came) (w : World) (dir : ℕ) (l : Line) (rest : List Moment) (ps : List Part) (last : Core) → ((s : Spot) → (l ≡ line.Dir s → ⊥)) → ((s : Spot) (c : List Bytes) → (l ≡ line.File s c → ⊥)) → AreOnWay past came w
-    → Onward ps rest last (past ++ turn_moments w (turn_of dir l)) (turned w (turn_of dir l)) → IsRunOf past came w.core (parts_by (Some l) ++ ps) (turn_moments w (turn_of dir l) ++ rest) last
-line_goes past came w dir line.Skipped rest ps last d f h go = goes_idle past came w w rest ps last refl refl h go
-line_goes past came w dir (line.Version v) rest ps last d f h go = goes_none past came w _ (Speaks v) rest ps last (refl, refl) (on_way_same past came w _ refl refl h) go
-line_goes past came w dir (line.Term n) rest ps last d f h go = goes_none past came w _ (Grants n) rest ps last (refl, refl) (on_way_same past came w _ refl refl h) go
-line_goes past came w dir (line.Drift n) rest ps last d f h go = goes_none past came w _ (Drifts n) rest ps last (refl, refl) (on_way_same past came w _ refl refl h) go
-line_goes past came w dir (line.Clients n) rest ps last d f h go = goes_none past came w _ (Clients n) rest ps last (refl, refl) (on_way_same past came w _ refl refl h) go
-line_goes past came w dir (line.Dir s) rest ps last d f h go = absurd (d s refl)
-line_goes past came w dir (line.File s c) rest ps last d f h go = absurd (f s c refl)
-line_goes past came w dir (line.Join c r at) rest ps last d f h go = goes_told past came w _ rest ps last h go
-line_goes past came w dir (line.Do c r command) rest ps last d f h go = goes_told past came w _ rest ps last h go
-line_goes past came w dir (line.Up n a now) rest ps last d f h go = goes_brought past came w _ (delivery Up n a now) _ rest ps last (up_brings past came (at_events w) n now a (on_way_same past came w (at_events w) refl refl h)) go
-line_goes past came w dir (line.Down n a now) rest ps last d f h go = goes_brought past came w _ (delivery Down n a now) _ rest ps last (down_brings past came (at_events w) n now a (on_way_same past came w (at_events w) refl refl h)) go
-line_goes past came w dir (line.Settle at) rest ps last d f h go = goes_told past came w _ rest ps last h go
-line_goes past came w dir (line.Cut c r) rest ps last d f h go = goes_told past came w _ rest ps last h go
-line_goes past came w dir (line.Hang n at) rest ps last d f h go = goes_told past came w _ rest ps last h go
-line_goes past came w dir (line.Pass n k server at) rest ps last d f h go = passes_go k past came (at_events w) n server at rest ps last (on_way_same past came w (at_events w) refl refl h) go
-line_goes past came w dir (line.Forge x key file offset count) rest ps last d f h go = forge_changes w past came x key file offset count rest ps last h go
-line_goes past came w dir (line.Clear x) rest ps last d f h go = clear_changes w past came x rest ps last h go
-line_goes past came w dir (line.Evict c file) rest ps last d f h go = goes_none past came w _ (Changes (line.Evict c file)) rest ps last (refl, client_is w.core c _ (numbered w.core.seats c)) (on_way_same past came w _ refl (client_sessions w.core c _ (numbered w.core.seats c)) h) go
-line_goes past came w dir (line.Warm c content) rest ps last d f h go = goes_none past came w _ (Changes (line.Warm c content)) rest ps last (refl, client_is w.core c _ (numbered w.core.seats c)) (on_way_same past came w _ refl (client_sessions w.core c _ (numbered w.core.seats c)) h) go
+line_goes : (sent : AllSent) (came : Came) (w : World) (dir : ℕ) (l : Line) (rest : List Moment) (ps : List Part) (last : Core) → ((s : Spot) → (l ≡ line.Dir s → ⊥)) → ((s : Spot) (c : List Bytes) → (l ≡ line.File s c → ⊥)) → IsSoFar sent came w
+    → Onward ps rest last (turned w (turn_of dir l)) → IsRunOf sent came w.core (parts_by (Some l) ++ ps) (turn_moments w (turn_of dir l) ++ rest) last
+line_goes sent came w dir line.Skipped rest ps last d f h go = goes_idle sent came w w rest ps last refl refl h go
+line_goes sent came w dir (line.Version v) rest ps last d f h go = goes_none sent came w _ (Speaks v) rest ps last (refl, refl) (so_same sent came w _ refl refl h) go
+line_goes sent came w dir (line.Term n) rest ps last d f h go = goes_none sent came w _ (Grants n) rest ps last (refl, refl) (so_same sent came w _ refl refl h) go
+line_goes sent came w dir (line.Drift n) rest ps last d f h go = goes_none sent came w _ (Drifts n) rest ps last (refl, refl) (so_same sent came w _ refl refl h) go
+line_goes sent came w dir (line.Clients n) rest ps last d f h go = goes_none sent came w _ (Clients n) rest ps last (refl, refl) (so_same sent came w _ refl refl h) go
+line_goes sent came w dir (line.Dir s) rest ps last d f h go = absurd (d s refl)
+line_goes sent came w dir (line.File s c) rest ps last d f h go = absurd (f s c refl)
+line_goes sent came w dir (line.Join c r at) rest ps last d f h go = goes_told sent came w _ rest ps last h go
+line_goes sent came w dir (line.Do c r command) rest ps last d f h go = goes_told sent came w _ rest ps last h go
+line_goes sent came w dir (line.Up n a now) rest ps last d f h go = goes_brought sent came (at_events w) _ (delivery Up n a now) _ rest ps last (up_brings sent came (at_events w) n now a (so_same sent came w (at_events w) refl refl h)) (rests_up (at_events w) n (count_of a (up_length (numbered w.wires n))) now (so_same sent came w (at_events w) refl refl h).rested) go
+line_goes sent came w dir (line.Down n a now) rest ps last d f h go = goes_brought sent came (at_events w) _ (delivery Down n a now) _ rest ps last (down_brings sent came (at_events w) n now a (so_same sent came w (at_events w) refl refl h)) (rests_down (at_events w) n (count_of a (down_length (numbered w.wires n))) now (so_same sent came w (at_events w) refl refl h).rested) go
+line_goes sent came w dir (line.Settle at) rest ps last d f h go = goes_told sent came w _ rest ps last h go
+line_goes sent came w dir (line.Cut c r) rest ps last d f h go = goes_told sent came w _ rest ps last h go
+line_goes sent came w dir (line.Hang n at) rest ps last d f h go = goes_told sent came w _ rest ps last h go
+line_goes sent came w dir (line.RawJoin at) rest ps last d f h go = goes_told sent came w _ rest ps last h go
+line_goes sent came w dir (line.Raw n bytes) rest ps last d f h go =
+    let on = so_same sent came w (at_events w) refl refl h in
+    goes_none sent came w _ (Sends n bytes) rest ps last (refl, refl) (record { ways = raw_on_way sent came (at_events w) n bytes on.ways; rested = rests_put (at_events w) n bytes on.rested }) go
+line_goes sent came w dir (line.Pass n k server at) rest ps last d f h go = passes_go k sent came (at_events w) n server at rest ps last (so_same sent came w (at_events w) refl refl h) go
+line_goes sent came w dir (line.Forge x key file offset count) rest ps last d f h go = forge_changes w sent came x key file offset count rest ps last h go
+line_goes sent came w dir (line.Clear x) rest ps last d f h go = clear_changes w sent came x rest ps last h go
+line_goes sent came w dir (line.Evict c file) rest ps last d f h go = goes_none sent came w _ (Changes (line.Evict c file)) rest ps last (refl, client_is w.core c _ (numbered w.core.seats c)) (so_same sent came w _ refl (client_sessions w.core c _ (numbered w.core.seats c)) h) go
+line_goes sent came w dir (line.Warm c content) rest ps last d f h go = goes_none sent came w _ (Changes (line.Warm c content)) rest ps last (refl, client_is w.core c _ (numbered w.core.seats c)) (so_same sent came w _ refl (client_sessions w.core c _ (numbered w.core.seats c)) h) go
 
-turn_goes : (past : List Moment) (came : Came) (w : World) (n : ℕ) (l : Line) (t : Turn) (rest : List Moment) (ps : List Part) (last : Core) → asked w n l ≡ Ok t → AreOnWay past came w → Onward ps rest last (past ++ turn_moments w t) (turned w t) → IsRunOf past came w.core (parts_by (Some l) ++ ps) (turn_moments w t ++ rest) last
-turn_goes past came w n (line.Dir s) t rest ps last e h go =
+turn_goes : (sent : AllSent) (came : Came) (w : World) (n : ℕ) (l : Line) (t : Turn) (rest : List Moment) (ps : List Part) (last : Core) → asked w n l ≡ Ok t → IsSoFar sent came w → Onward ps rest last (turned w t) → IsRunOf sent came w.core (parts_by (Some l) ++ ps) (turn_moments w t ++ rest) last
+turn_goes sent came w n (line.Dir s) t rest ps last e h go =
     let p = dir_place w w.stage s t (within (nat_le n line_most) (asks w (line.Dir s)) t e) in
-    subst (λ (z : Turn). Onward ps rest last (past ++ turn_moments w z) (turned w z) → IsRunOf past came w.core (parts_by (Some (line.Dir s)) ++ ps) (turn_moments w z ++ rest) last) (sym p.2)
-    (λ go. goes_none past came w _ (Opens s Directory) rest ps last (refl, (p.0, p.1, refl)) (on_way_same past came w _ refl refl h) go) go
-turn_goes past came w n (line.File s c) t rest ps last e h go =
+    subst (λ (z : Turn). Onward ps rest last (turned w z) → IsRunOf sent came w.core (parts_by (Some (line.Dir s)) ++ ps) (turn_moments w z ++ rest) last) (sym p.2)
+    (λ go. goes_none sent came w _ (Opens s Directory) rest ps last (refl, (p.0, p.1, refl)) (so_same sent came w _ refl refl h) go) go
+turn_goes sent came w n (line.File s c) t rest ps last e h go =
     let p = file_place w w.stage s c t (within (nat_le n line_most) (asks w (line.File s c)) t e) in
-    subst (λ (z : Turn). Onward ps rest last (past ++ turn_moments w z) (turned w z) → IsRunOf past came w.core (parts_by (Some (line.File s c)) ++ ps) (turn_moments w z ++ rest) last) (sym p.2)
-    (λ go. goes_none past came w _ (Opens s (File (content_bytes c))) rest ps last (refl, (p.0, p.1, refl)) (on_way_same past came w _ refl refl h) go) go
-turn_goes past came w n l t rest ps last e h go =
+    subst (λ (z : Turn). Onward ps rest last (turned w z) → IsRunOf sent came w.core (parts_by (Some (line.File s c)) ++ ps) (turn_moments w z ++ rest) last) (sym p.2)
+    (λ go. goes_none sent came w _ (Opens s (File (content_bytes c))) rest ps last (refl, (p.0, p.1, refl)) (so_same sent came w _ refl refl h) go) go
+turn_goes sent came w n l t rest ps last e h go =
     let p = asked_turn w n l t e in
-    subst (λ (z : Turn). Onward ps rest last (past ++ turn_moments w z) (turned w z) → IsRunOf past came w.core (parts_by (Some l) ++ ps) (turn_moments w z ++ rest) last) (sym p.1)
-    (line_goes past came w p.0 l rest ps last (λ s is. absurd cc) (λ s c is. absurd cc) h) go
+    subst (λ (z : Turn). Onward ps rest last (turned w z) → IsRunOf sent came w.core (parts_by (Some l) ++ ps) (turn_moments w z ++ rest) last) (sym p.1)
+    (line_goes sent came w p.0 l rest ps last (λ s is. absurd cc) (λ s c is. absurd cc) h) go
 
 -- ---- all lines
 
 abbrev Goes : ℕ → (w v : World) → List (List ℕ) → Type 0
-Goes n w v ls = (t : Turn) (past : List Moment) (came : Came) → run_from (turned w t) (n + 1) ls ≡ Ok v → AreOnWay past came (turned w t) → IsRunOf past came (turned w t).core (parts_of ls) (moments_from (turned w t) (n + 1) ls) v.core
+Goes n w v ls = (t : Turn) → run_from (turned w t) (n + 1) ls ≡ Ok v → Onward (parts_of ls) (moments_from (turned w t) (n + 1) ls) v.core (turned w t)
 
-lines_go : (n : ℕ) (past : List Moment) (came : Came) (w v : World) (ls : List (List ℕ)) → run_from w n ls ≡ Ok v → AreOnWay past came w → IsRunOf past came w.core (parts_of ls) (moments_from w n ls) v.core
-lines_go n past came w v [] e h = (refl, ap (λ (z : World). z.core) (sym (ended_is w v n _ e)))
-lines_go n past came w v (l ∷ ls) e h = by_line (line_of l) (λ t before more. lines_go (n + 1) before more (turned w t) v ls) e
+lines_go : (n : ℕ) (w v : World) (ls : List (List ℕ)) → run_from w n ls ≡ Ok v → Onward (parts_of ls) (moments_from w n ls) v.core w
+lines_go n w v [] e sent came h = (refl, ap (λ (z : World). z.core) (sym (ended_is w v n _ e)))
+lines_go n w v (l ∷ ls) e sent came h = by_line (line_of l) (λ t. lines_go (n + 1) (turned w t) v ls) e
   where
-    by_turn : (x : Line) (r : Result Turn LineFault) → asked w n x ≡ r → Goes n w v ls → ran_by w n ls r ≡ Ok v → IsRunOf past came w.core (parts_by (Some x) ++ parts_of ls) (moments_by w n ls r) v.core
+    by_turn : (x : Line) (r : Result Turn LineFault) → asked w n x ≡ r → Goes n w v ls → ran_by w n ls r ≡ Ok v → IsRunOf sent came w.core (parts_by (Some x) ++ parts_of ls) (moments_by w n ls r) v.core
     by_turn x (Err f) is go e = no_world _ v e
-    by_turn x (Ok t) is go e = turn_goes past came w n x t (moments_from (turned w t) (n + 1) ls) (parts_of ls) v.core is h (λ more on. go t (past ++ turn_moments w t) more e on)
+    by_turn x (Ok t) is go e = turn_goes sent came w n x t (moments_from (turned w t) (n + 1) ls) (parts_of ls) v.core is h (go t e)
 
-    by_line : (o : Option Line) → Goes n w v ls → ran_by w n ls (asked_by w n o) ≡ Ok v → IsRunOf past came w.core (parts_by o ++ parts_of ls) (moments_by w n ls (asked_by w n o)) v.core
+    by_line : (o : Option Line) → Goes n w v ls → ran_by w n ls (asked_by w n o) ≡ Ok v → IsRunOf sent came w.core (parts_by o ++ parts_of ls) (moments_by w n ls (asked_by w n o)) v.core
     by_line None go e = no_world _ v e
     by_line (Some x) go e = by_turn x (asked w n x) refl go e
 
-on_way_first : AreOnWay [] nothing_came start
+on_way_first : IsSoFar nothing_sent nothing_came start
 on_way_first = record {
-  count = refl;
-  each = λ side n x q at there. none n q there;
-  none = λ side n at. (refl, refl);
+  ways = record { count = refl; each = λ side n x q at there. none n q there; none = λ side n at. (refl, refl) };
+  rested = record { count = refl; each = λ n q there. none n q there };
 }
   where
     none : {A B : Type 0} (n : ℕ) (q : A) → numbered [] n ≡ Some q → B
@@ -482,4 +595,4 @@ on_way_first = record {
     none (suc n) q e = nothing_there q e
 
 pub run_chained : (input : List ℕ) (w : World) → run input ≡ Ok w → IsChained input (moments input) w
-run_chained input w e = lines_go 1 [] nothing_came start w (lines_of input) e on_way_first
+run_chained input w e = lines_go 1 start w (lines_of input) e nothing_sent nothing_came on_way_first

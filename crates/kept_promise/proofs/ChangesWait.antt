@@ -7,6 +7,7 @@ use Rattle.xdr_codec.specs.declared.status.Status.{Status}
 use Rattle.hash_calls.specs.declared.message.Back.TheVariants as back
 use Rattle.wire.specs.Parse.{parse_of}
 use Rattle.wire.specs.declared.fault.WireFault.{WireFault}
+use Rattle.wire.specs.declared.fault.WireFault.TheVariants as fault
 use Rattle.wire.specs.declared.message.Body.{Body}
 use Rattle.wire.specs.declared.message.Body.TheVariants as body
 use Rattle.wire.specs.declared.message.Message.{Message}
@@ -38,7 +39,7 @@ use Rattle.server_core.specs.declared.change.Wanted.TheVariants as wanted
 use Rattle.server_core.specs.declared.event.Sent.{Sent}
 use Rattle.server_core.specs.declared.event.ServerStep.{ServerStep}
 use Rattle.trace_replay.specs.PendingChanges.{move_of, recall_numbers, StoodIn, GrantsNone, GivesUp, FreesAnswered, Comes, GoesOn}
-use Rattle.kept_promise.proofs.Common.{Core, CoreStep, Session, Event, Event.Joins, Event.Does, Event.Serves, Event.Hears, Event.Settles, Event.Cuts, Event.Hangs, happens, serves, serves_if, hangs, hangs_if, numbered, server_waits, Book, Queue, Moment}
+use Rattle.kept_promise.proofs.Common.{Core, CoreStep, Session, Event, Event.Joins, Event.Does, Event.Serves, Event.Hears, Event.Settles, Event.Cuts, Event.Hangs, happens, serves, serves_if, hangs, hangs_if, numbered, server_waits, Book, Queue, Moment, Event.RawJoins, serves_unless, loses}
 use Rattle.kept_promise.proofs.CallsAlike.{call_read}
 use Rattle.kept_promise.proofs.Facts.{IsKept}
 use Rattle.kept_promise.proofs.Happens.{what_happens}
@@ -47,7 +48,9 @@ use Rattle.kept_promise.proofs.LeasesStand.{there_filtered, contains_at, map_the
 use Rattle.kept_promise.proofs.Lists.{some_is, nothing_there}
 use Rattle.kept_promise.proofs.MadeRuns.{Leaves, leaves_ready}
 use Rattle.kept_promise.proofs.RunsCarried.{moment}
-use Rattle.kept_promise.proofs.Turns.{also_numbered}
+use Rattle.kept_promise.proofs.Turns.{unhung_stands}
+use Rattle.trace_ends.specs.Core.{serves_none}
+use Rattle.std.specs.List.{list_any}
 
 -- ---- no lease is granted
 
@@ -109,11 +112,14 @@ grants_none k e ordered = what_happens k e (λ t. NoneGranted k.server t.core.se
   joins = λ c seat is. none_same k.server (connect k.server true).0 refl;
   refuses = λ c seat is. none_same k.server (connect k.server false).0 refl;
   does = λ c now d seat is. none_same k.server k.server refl;
-  takes = λ n now bytes x m is at read. got_none k.server (stands k.server n) n now m ordered;
+  takes = λ n now bytes x m is at unhung read. got_none k.server (stands k.server n) n now m ordered;
   hears = λ n now bytes owner seat is. none_same k.server k.server refl;
   settles = λ now is. settle_none k.server now;
   cuts = λ c seat is. none_same k.server k.server refl;
-  hangs = λ n x is at. hang_none k.server (stands k.server n) n;
+  closes = λ n now bytes x is at unhung. hang_none k.server (stands k.server n) n;
+  hangs = λ n x is at unhung. hang_none k.server (stands k.server n) n;
+  raw_joins = λ is. none_same k.server (connect k.server true).0 refl;
+  raw_refuses = λ is. none_same k.server (connect k.server false).0 refl;
 })
 
 -- ---- an answer to a RECALL
@@ -126,12 +132,16 @@ stands_gives s true n xid now up g sent = record {
 stands_gives s false n xid now up g sent = absurd cc
 
 -- on a session that was made
-pub frees_answered : (book : Book) (k : Core) (qs : List Queue) (e : Event) → ((n now : ℕ) (bytes : List ℕ) → e ≡ Serves n now bytes → (x : Session) × (numbered k.sessions n ≡ Some x)) → FreesAnswered (move_of (moment k e))
-frees_answered book k qs e made n now xid bytes is up read =
+pub frees_answered : (book : Book) (k : Core) (qs : List Queue) (e : Event) → IsKept book k qs → ((n now : ℕ) (bytes : List ℕ) → e ≡ Serves n now bytes → (x : Session) × (numbered k.sessions n ≡ Some x)) → FreesAnswered (move_of (moment k e))
+frees_answered book k qs e kept made n now xid bytes is up read =
     subst (λ (z : Event). GivesUp (move_of (moment k z)) n xid) (sym is)
     (let x = made n now bytes is in
-    subst (λ (t : CoreStep). GivesUp (record { event = Serves n now bytes; before = k.server; after = t.core.server; sent = t.down }) n xid) (sym (ap (serves k n now bytes) x.1 ∙ ap (serves_if k n now x.0) read))
+    subst (λ (t : CoreStep). GivesUp (record { event = Serves n now bytes; before = k.server; after = t.core.server; sent = t.down }) n xid) (sym (ap (serves k n now bytes) x.1 ∙ ap (serves_unless k n now bytes x.0) (heard x.0.hung (sym up ∙ unhung_stands book k qs n kept x.0 x.1)) ∙ ap (serves_if k n now x.0) read))
     (stands_gives k.server (stands k.server n) n xid now up (Serves n now bytes) (got_if_under k.server false (stands k.server n) n (message.Answer xid (body.Back back.RecallAnswer)) now).1.send))
+  where
+    heard : (hung : Bool) → true ≡ not hung → hung ≡ false
+    heard false e = refl
+    heard true e = absurd cc
 
 -- ---- a change comes
 
@@ -155,14 +165,14 @@ asks_all s c i l ordered at on other lasts unasked up =
     ]
 
 -- the call is a change from now on
--- by these moments a session whose numbers are used up was sent as many RECALLs
-abbrev pub SpentSo : (till : List Moment) → Core → State → Type 0
-SpentSo till k after = (n : ℕ) → stands k.server n ≡ true → (call_at after.leasing.calls n).spent ≡ true → XIDS_MOST ≤ length (recall_numbers n till)
+-- by these moments a session that stands and whose numbers are used up was sent as many RECALLs
+abbrev pub SpentSo : (till : List Moment) → State → Type 0
+SpentSo till after = (n : ℕ) → stands after n ≡ true → (call_at after.leasing.calls n).spent ≡ true → XIDS_MOST ≤ length (recall_numbers n till)
 
 comes_so : (till : List Moment) (k : Core) (n now : ℕ) (bytes : List ℕ) (xid : ℕ) (b : Body) (after : State) (sent : List Sent) → AreOrdered k.server.leasing.leases → parse_of (server_waits k n) bytes ≡ Ok (message.Call xid b) → (c : FileChange) → IsAsked k.server.tree n xid b c → after.waiting ≡ k.server.waiting ++ c ∷ []
     → after.leasing ≡ recalled (at_reading k.server now).leasing (recalls_for (at_reading k.server now) c) → sent ≡ map recall_sent (asking (at_reading k.server now).leasing (recalls_for (at_reading k.server now) c)).1
-    → SpentSo till k after → Comes till (record { event = Serves n now bytes; before = k.server; after = after; sent = sent }) n now bytes c
-comes_so till k n now bytes xid b after sent ordered read c asked waiting leasing says spends = record {
+    → after.sessions ≡ k.server.sessions → SpentSo till after → Comes till (record { event = Serves n now bytes; before = k.server; after = after; sent = sent }) n now bytes c
+comes_so till k n now bytes xid b after sent ordered read c asked waiting leasing says same spends = record {
   call = b;
   read = call_read k n bytes xid b read ∙ ap (λ (y : ℕ). Ok (message.Call y b)) (sym asked.xid_is);
   session_is = asked.session_is;
@@ -171,7 +181,7 @@ comes_so till k n now bytes xid b after sent ordered read c asked waiting leasin
   behind = waiting;
   asks = λ i l at on other lasts unasked up. elim (asks_all (at_reading k.server now) c i l ordered at on other lasts unasked up) [
     | inl h ↦ inl (h.0, subst (λ (ms : List Sent). Contains ms (record { session = l.session; message = message.Call h.0 (body.Back (back.Recall (handle_bytes l.file))) })) (sym says) h.1, h.2, ap (λ g. slice_get g.leases h.2) leasing ∙ h.3)
-    | inr spent ↦ inr (spends l.session up (ap (λ g. (call_at g.calls l.session).spent) leasing ∙ spent))
+    | inr spent ↦ inr (spends l.session (ap (λ (ks : List ℕ). list_any (λ k. k == l.session) ks) same ∙ up) (ap (λ g. (call_at g.calls l.session).spent) leasing ∙ spent))
   ];
 }
 
@@ -187,30 +197,47 @@ without_absent (w ∷ ws) n none = by (w.session == n) refl (without_absent ws n
     by false is later = ap (λ (l : List FileChange). w ∷ l) later
 
 abbrev ServedOn : List Moment → Core → (n now : ℕ) (bytes : List ℕ) → CoreStep → Type 0
-ServedOn till k n now bytes t = SpentSo till k t.core.server → GoesOn till (Serves n now bytes) (record { event = Serves n now bytes; before = k.server; after = t.core.server; sent = t.down })
+ServedOn till k n now bytes t = SpentSo till t.core.server → GoesOn till (Serves n now bytes) (record { event = Serves n now bytes; before = k.server; after = t.core.server; sent = t.down })
 
-serves_on : (till : List Moment) (k : Core) (n now : ℕ) (bytes : List ℕ) → AreOrdered k.server.leasing.leases → ServedOn till k n now bytes (happens k (Serves n now bytes))
-serves_on till k n now bytes ordered = by (numbered k.sessions n)
+-- with a session that is lost or closed its change goes
+loses_on : (book : Book) (k : Core) (qs : List Queue) (n : ℕ) → IsKept book k qs → (x : Session) → numbered k.sessions n ≡ Some x → x.hung ≡ false → (loses k n x).core.server.waiting ≡ without k.server.waiting n
+loses_on book k qs n kept x at up = by (stands k.server n) (unhung_stands book k qs n kept x at ∙ ap not up)
   where
-    taken : (x : Session) (xid : ℕ) (b : Body) → parse_of (server_waits k n) bytes ≡ Ok (message.Call xid b) → (p : State × ServerStep) → Taken (at_reading k.server now) n xid b p → SpentSo till k p.0 → GoesOn till (Serves n now bytes) (record { event = Serves n now bytes; before = k.server; after = p.0; sent = p.1.send })
+    by : (t : Bool) → t ≡ true → (server_hangs_if k.server t n).0.waiting ≡ without k.server.waiting n
+    by true is = refl
+    by false is = absurd cc
+
+serves_on : (till : List Moment) (book : Book) (k : Core) (qs : List Queue) (n now : ℕ) (bytes : List ℕ) → IsKept book k qs → AreOrdered k.server.leasing.leases → ServedOn till k n now bytes (happens k (Serves n now bytes))
+serves_on till book k qs n now bytes kept ordered = by (numbered k.sessions n) refl
+  where
+    taken : (x : Session) (xid : ℕ) (b : Body) → parse_of (server_waits k n) bytes ≡ Ok (message.Call xid b) → (p : State × ServerStep) → Taken (at_reading k.server now) n xid b p → SpentSo till p.0 → GoesOn till (Serves n now bytes) (record { event = Serves n now bytes; before = k.server; after = p.0; sent = p.1.send })
     taken x xid b read p (stays waiting leasing quiet same) spends = inl waiting
     taken x xid b read p (grants file names waiting leasing quiet same) spends = inl waiting
-    taken x xid b read p (comes_to c asked waiting leasing says same) spends = inr (c, comes_so till k n now bytes xid b p.0 p.1.send ordered read c asked waiting leasing says spends)
+    taken x xid b read p (comes_to c asked waiting leasing says same) spends = inr (inl (c, comes_so till k n now bytes xid b p.0 p.1.send ordered read c asked waiting leasing says same.0 spends))
 
-    got : (x : Session) (m : Message) → parse_of (server_waits k n) bytes ≡ Ok m → (t : Bool) → (let p = got_if_under k.server false t n m now in SpentSo till k p.0 → GoesOn till (Serves n now bytes) (record { event = Serves n now bytes; before = k.server; after = p.0; sent = p.1.send }))
+    got : (x : Session) (m : Message) → parse_of (server_waits k n) bytes ≡ Ok m → (t : Bool) → (let p = got_if_under k.server false t n m now in SpentSo till p.0 → GoesOn till (Serves n now bytes) (record { event = Serves n now bytes; before = k.server; after = p.0; sent = p.1.send }))
     got x m read false spends = inl refl
     got x (message.Call xid b) read true spends = taken x xid b read (called_under (at_reading k.server now) false n xid b) (called_taken (at_reading k.server now) n xid b) spends
     got x (message.Unfit xid why) read true spends = inl refl
     got x (message.Refuse xid why) read true spends = inl refl
     got x (message.Answer xid b) read true spends = inl refl
 
-    read_ : (x : Session) (r : Result Message WireFault) → parse_of (server_waits k n) bytes ≡ r → ServedOn till k n now bytes (serves_if k n now x r)
-    read_ x (Ok m) is spends = got x m is (stands k.server n) spends
-    read_ x (Err e) is spends = inl refl
+    none : (x : Session) → numbered k.sessions n ≡ Some x → x.hung ≡ false → (e : WireFault) → parse_of (server_waits k n) bytes ≡ Err e → ServedOn till k n now bytes (serves_none k n x e)
+    none x at up (fault.UnknownXid xid) is spends = inl refl
+    none x at up (fault.NotRpc place) is spends = inr (inr ((fault.NotRpc place, is, tt), loses_on book k qs n kept x at up))
+    none x at up (fault.Garbage place) is spends = inr (inr ((fault.Garbage place, is, tt), loses_on book k qs n kept x at up))
 
-    by : (o : Option Session) → ServedOn till k n now bytes (serves k n now bytes o)
-    by None spends = inl refl
-    by (Some x) spends = read_ x (parse_of (server_waits k n) bytes) refl spends
+    read_ : (x : Session) → numbered k.sessions n ≡ Some x → x.hung ≡ false → (r : Result Message WireFault) → parse_of (server_waits k n) bytes ≡ r → ServedOn till k n now bytes (serves_if k n now x r)
+    read_ x at up (Ok m) is spends = got x m is (stands k.server n) spends
+    read_ x at up (Err e) is spends = none x at up e is spends
+
+    heard : (x : Session) → numbered k.sessions n ≡ Some x → (b : Bool) → x.hung ≡ b → ServedOn till k n now bytes (serves_unless k n now bytes x b)
+    heard x at true is spends = inl refl
+    heard x at false is spends = read_ x at is (parse_of (server_waits k n) bytes) refl spends
+
+    by : (o : Option Session) → numbered k.sessions n ≡ o → ServedOn till k n now bytes (serves k n now bytes o)
+    by None at spends = inl refl
+    by (Some x) at spends = heard x at x.hung refl spends
 
 hangs_on : (book : Book) (k : Core) (qs : List Queue) (n : ℕ) → IsKept book k qs → (happens k (Hangs n)).core.server.waiting ≡ without k.server.waiting n
 hangs_on book k qs n kept = by (numbered k.sessions n) refl
@@ -219,15 +246,8 @@ hangs_on book k qs n kept = by (numbered k.sessions n) refl
     untouched : ((x : Session) → numbered k.sessions n ≡ Some x → x.hung ≡ false → ⊥) → k.server.waiting ≡ without k.server.waiting n
     untouched never = sym (without_absent k.server.waiting n (λ i c at own. let home = kept.home i c at in never home.0 (ap (numbered k.sessions) (sym own) ∙ home.1) home.2))
 
-    lost : (x : Session) → numbered k.sessions n ≡ Some x → x.hung ≡ false → (t : Bool) → stands k.server n ≡ t → (server_hangs_if k.server t n).0.waiting ≡ without k.server.waiting n
-    lost x at up true is = refl
-    lost x at up false is = let q = also_numbered k.sessions qs n x kept.made.1 at in absurd (no (sym is ∙ (kept.sessions n x q.0 at q.1).stands_is ∙ ap not up))
-      where
-        no : false ≡ true → ⊥
-        no z = cc
-
     hung : (x : Session) → numbered k.sessions n ≡ Some x → (b : Bool) → x.hung ≡ b → (hangs_if k n x b).core.server.waiting ≡ without k.server.waiting n
-    hung x at false is = lost x at is (stands k.server n) refl
+    hung x at false is = loses_on book k qs n kept x at is
     hung x at true is = untouched (λ y there up. no (sym is ∙ ap (λ (z : Session). z.hung) (some_is x y (sym at ∙ there)) ∙ up))
       where
         no : true ≡ false → ⊥
@@ -249,21 +269,25 @@ rests_on k e served settled hung = what_happens k e (λ t. t.core.server.waiting
   joins = λ c seat is. refl;
   refuses = λ c seat is. refl;
   does = λ c now d seat is. refl;
-  takes = λ n now bytes x m is at read. absurd (served n now bytes is);
+  takes = λ n now bytes x m is at unhung read. absurd (served n now bytes is);
+  closes = λ n now bytes x is at unhung. absurd (served n now bytes is);
   hears = λ n now bytes owner seat is. refl;
   settles = λ now is. absurd (settled now is);
   cuts = λ c seat is. refl;
-  hangs = λ n x is at. absurd (hung n is);
+  hangs = λ n x is at unhung. absurd (hung n is);
+  raw_joins = λ is. refl;
+  raw_refuses = λ is. refl;
 })
 
-pub goes_on : (till : List Moment) (book : Book) (k : Core) (qs : List Queue) (e : Event) → IsKept book k qs → AreOrdered k.server.leasing.leases → ((n now : ℕ) (bytes : List ℕ) → e ≡ Serves n now bytes → SpentSo till k (happens k e).core.server) → GoesOn till e (move_of (moment k e))
-goes_on till book k qs (Serves n now bytes) kept ordered spends = serves_on till k n now bytes ordered (spends n now bytes refl)
+pub goes_on : (till : List Moment) (book : Book) (k : Core) (qs : List Queue) (e : Event) → IsKept book k qs → AreOrdered k.server.leasing.leases → ((n now : ℕ) (bytes : List ℕ) → e ≡ Serves n now bytes → SpentSo till (happens k e).core.server) → GoesOn till e (move_of (moment k e))
+goes_on till book k qs (Serves n now bytes) kept ordered spends = serves_on till book k qs n now bytes kept ordered (spends n now bytes refl)
 goes_on till book k qs (Settles now) kept ordered spends = settles_on till k now (ready_by k.server now) refl (leaves_ready book k qs now kept)
 goes_on till book k qs (Hangs n) kept ordered spends = hangs_on book k qs n kept
 goes_on till book k qs (Joins c) kept ordered spends = rests_on k (Joins c) (λ n now bytes z. absurd cc) (λ now z. absurd cc) (λ n z. absurd cc)
 goes_on till book k qs (Does c now d) kept ordered spends = rests_on k (Does c now d) (λ n now bytes z. absurd cc) (λ now z. absurd cc) (λ n z. absurd cc)
 goes_on till book k qs (Hears n now bytes) kept ordered spends = rests_on k (Hears n now bytes) (λ n now bytes z. absurd cc) (λ now z. absurd cc) (λ n z. absurd cc)
 goes_on till book k qs (Cuts c) kept ordered spends = rests_on k (Cuts c) (λ n now bytes z. absurd cc) (λ now z. absurd cc) (λ n z. absurd cc)
+goes_on till book k qs RawJoins kept ordered spends = rests_on k RawJoins (λ n now bytes z. absurd cc) (λ now z. absurd cc) (λ n z. absurd cc)
 
 -- ---- leases stand in their order
 
@@ -313,11 +337,14 @@ stays_ordered k e h = what_happens k e (λ t. AreOrdered t.core.server.leasing.l
   joins = λ c seat is. h;
   refuses = λ c seat is. h;
   does = λ c now d seat is. h;
-  takes = λ n now bytes x m is at read. got_ordered k.server (stands k.server n) n now m h;
+  takes = λ n now bytes x m is at unhung read. got_ordered k.server (stands k.server n) n now m h;
   hears = λ n now bytes owner seat is. h;
   settles = λ now is. settle_ordered k.server now h;
   cuts = λ c seat is. h;
-  hangs = λ n x is at. hang_ordered k.server (stands k.server n) n h;
+  closes = λ n now bytes x is at unhung. hang_ordered k.server (stands k.server n) n h;
+  hangs = λ n x is at unhung. hang_ordered k.server (stands k.server n) n h;
+  raw_joins = λ is. h;
+  raw_refuses = λ is. h;
 })
 
 -- ---- nor does the quiet end later
@@ -356,9 +383,12 @@ quiet_stays k e = what_happens k e (λ t. t.core.server.leasing.quiet ≡ k.serv
   joins = λ c seat is. refl;
   refuses = λ c seat is. refl;
   does = λ c now d seat is. refl;
-  takes = λ n now bytes x m is at read. quiet_got k.server (stands k.server n) n now m;
+  takes = λ n now bytes x m is at unhung read. quiet_got k.server (stands k.server n) n now m;
   hears = λ n now bytes owner seat is. refl;
   settles = λ now is. quiet_settle k.server now;
   cuts = λ c seat is. refl;
-  hangs = λ n x is at. quiet_hang k.server (stands k.server n) n;
+  closes = λ n now bytes x is at unhung. quiet_hang k.server (stands k.server n) n;
+  hangs = λ n x is at unhung. quiet_hang k.server (stands k.server n) n;
+  raw_joins = λ is. refl;
+  raw_refuses = λ is. refl;
 })

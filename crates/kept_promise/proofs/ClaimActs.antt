@@ -21,7 +21,7 @@ use Rattle.kept_promise.proofs.Turns.{also_numbered, around_with}
 use Rattle.kept_promise.proofs.Leading.{Sends, sent_ups, sent_downs, mixes_lost, mixes_after}
 use Rattle.kept_promise.proofs.RecallsKept.{AreRecalls, AreAwaited, AreTwo, AllOnce, AllBeside, IsBeside, IsWaited, all_join, all_map}
 use Rattle.kept_promise.proofs.Claimed.{Claimed, HasClaims, HasNote, IsTalking, IsPromised, AllTails, leasing_xid, ups_of, downs_of, way_of}
-use Rattle.kept_promise.proofs.ClaimWays.{downs_on, before_at, sent_is, ups_are, ups_unless}
+use Rattle.kept_promise.proofs.ClaimWays.{downs_on, before_at, sent_is, ups_are, ups_unless, none_is}
 use Rattle.kept_promise.proofs.ClaimFrame.{claim_of, Goes, note_goes, tails_map, promised_map}
 use Rattle.kept_promise.proofs.NoteSteps.{StepKeeps, HadNote, SendsLease}
 
@@ -145,7 +145,7 @@ module _ (k : Core) (ms mid : List Mix) (t : CoreStep) (i : ℕ) (seat next : Se
       let b = before_at mid t sent n p.0 p.1 in
       let r = acts.rest n m.0 b.was m.1 (ap (λ (l : _). numbered (mixes_lost mid l) n) (sym acts.loss) ∙ b.there) in
       let z = acts.sessions n x y.0 at y.1 in
-      let nothing : downs_on n (sent_downs t sent) ≡ [] = none_left _ (downs_on n (sent_downs t sent)) (sent_is t sent n ∙ ap (sent_on n) acts.down) in
+      let nothing : downs_on n (sent_downs t sent) ≡ [] = none_left _ (downs_on n (sent_downs t sent)) (none_is t sent n acts.down) in
       let down_same : p.0.downs ≡ b.was.downs = b.downs y.0 y.1 ∙ ap (unless y.0.cut b.was.downs) nothing ∙ unless_nothing y.0.cut b.was.downs in
       record {
         x = x;

@@ -35,8 +35,9 @@ use Rattle.kept_promise.proofs.ClaimWays.{downs_on, sent_is}
 use Rattle.kept_promise.proofs.ClaimFrame.{tails_map}
 use Rattle.kept_promise.proofs.ClaimGrants.{grants_by, lease_grants, on_grantless}
 use Rattle.kept_promise.proofs.ClaimTold.{commit_promised}
-use Rattle.kept_promise.proofs.ClaimServer.{awaited_dropped, At, server_claimed}
-use Rattle.kept_promise.proofs.ClaimServed.{made_is, pairs_are, finish, none_told, promised_as, settle_turn, settled_orderly}
+use Rattle.kept_promise.proofs.ClaimServer.{awaited_dropped, At, server_claimed, whole_at}
+use Rattle.kept_promise.proofs.ClaimServed.{made_is, pairs_are, finish, none_told, promised_as, settle_turn, settled_orderly, apart_are}
+use Rattle.kept_promise.proofs.Turns.{has_owner}
 
 -- ---- one answer
 
@@ -105,10 +106,10 @@ module _ {all past rest : List Moment} {opening : List Opening} {k : Core} {ms :
 
   pub own_session : (i : ℕ) (seat : Seat) (n : ℕ) (x : Session) (m : Mix) → numbered k.seats i ≡ Some seat → seat.session ≡ Some n → numbered k.sessions n ≡ Some x → numbered ms n ≡ Some m → Own i seat n x m
   own_session i seat n x m here mine at is =
-      let h = s.plain.kept.sessions n x (queue_of m) at (there_plain ms n m is) in
       let o = (s.plain.kept.seats i seat here).session n mine in
       let same : o.0 ≡ x = some_is o.0 x (sym o.1 ∙ at) in
       let owner : x.owner ≡ i = ap (λ (z : Session). z.owner) (sym same) ∙ o.2 in
+      let h = s.plain.kept.sessions n x (queue_of m) at (there_plain ms n m is) (has_owner k.seats x seat (ap (numbered k.seats) owner ∙ here)) in
       record { session = h; seat_is = some_is h.seat seat (sym h.owner ∙ ap (numbered k.seats) owner ∙ here) }
 
 -- a pending change is among its session's
@@ -138,10 +139,10 @@ pub settle_claimed : {all past rest : List Moment} {opening : List Opening} {k :
     → mid ≡ ms → Claimed noted clock k ms → Claimed more at_ (happens k (Settles at_)).core after
 settle_claimed {all = all} {opening = opening} {k = k} {ms = ms} at_ {mid = mid} {after = after} s clock noted more le grows same h =
     finish s more at_ (settles k at_) refl (λ sent count.
-    server_claimed k ms mid (settles k at_) (event.Settle at_) (settle_turn k ms mid at_ same) (made_is s) (pairs_are s) sent count clock at_ noted more grows h (le, omega arith) le
+    server_claimed k ms mid (settles k at_) (event.Settle at_) (settle_turn k ms mid at_ same) (made_is s) (pairs_are s) sent count (apart_are s) clock at_ noted more grows h (le, omega arith) le
     (settled_orderly k.server clock at_ at_ le (omega arith) h.orderly)
     (moves_recalls k.server (server_step k.server (event.Settle at_)) (change_moves k.server false at_) h.recalls)
-    (λ n a. awaited_dropped (server_step k.server (event.Settle at_)).0 n (ups_of a.m) (ups_of a.left) _ a.dropped
+    (λ n a owned. awaited_dropped (server_step k.server (event.Settle at_)).0 n (ups_of a.m) (ups_of a.left) _ a.dropped
     (let talk = h.talks n a.m a.m_there in moves_awaited k.server n (way_of a.x a.m) (downs_of a.m.downs) h.recalls talk.numbers talk.awaited (server_step k.server (event.Settle at_)) (change_moves k.server false at_)))
     (λ i seat u n a here task mine uncut. promises sent i seat u n a here task mine uncut))
   where
@@ -161,7 +162,7 @@ settle_claimed {all = all} {opening = opening} {k = k} {ms = ms} at_ {mid = mid}
         by_step r is go =
             tails_map (IsPromised more at_ (record k { server = r.0 }) i n (way_of a.y a.p) seat.client.sent u) (IsPromised more at_ (settles k at_).core i n (way_of a.y a.p) seat.client.sent u)
             (λ d bs q. promised_as more at_ (record k { server = r.0 }) (settles k at_).core i n (way_of a.y a.p) seat.client.sent u (ap (λ (z : server.State × ServerStep). z.0) is) refl d bs q) ds
-            (go (sent_is (settles k at_) sent n ∙ ap (λ (z : server.State × ServerStep). sent_on n z.1.send) is))
+            (go (sent_is (settles k at_) sent n (whole_at a uncut) ∙ ap (λ (z : server.State × ServerStep). sent_on n z.1.send) is))
 
         -- what is on its way up is no COMMITTMP, where one waits
         unstored : (d : FileChange) → ready_by k.server at_ ≡ Some d → d.session ≡ n → (f : ℕ) → AllByRecursion (λ m. stored_by m ≡ Some f → ⊥) (ups_of a.p)

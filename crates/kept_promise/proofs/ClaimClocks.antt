@@ -15,7 +15,7 @@ use Rattle.trace_replay.specs.declared.stage.Stage.{Stage}
 use Rattle.trace_replay.specs.declared.stage.Stage.TheVariants as stage
 use Rattle.trace_replay.specs.declared.turn.Turn.TheVariants as turn
 use Rattle.trace_replay.specs.Timed.{Timed, Times, down_timing, pass_timing, timing_of, read_by, times_with, with_times, times_if, timed_by, timed_turn, timed_start, accepted_from}
-use Rattle.trace_replay.specs.Run.{refused, is_there}
+use Rattle.trace_replay.specs.Run.{refused, is_owned_at}
 use Rattle.lease_law.specs.Claims.{noted_at, IsAmong}
 use Rattle.lease_law.proofs.lemmas.Claiming.{all_among}
 use Rattle.kept_promise.proofs.Common.{lines_of, line_of, Line, LineFault, Grammar, Refused, Turn, Session, Event.Serves, Event.Hears, numbered, World, Wire, happened, fed, up_all, up_length, down_length, up_taken, down_taken, is_still, round, at_events, count_of, asks_if, event_asks, asks_at, asks, asked, asked_by, turned, in_header, owners_of, accepted, Moment, moments_of, up_moments_at, up_moments, down_moments_at, down_moments, round_moments, passes_moments, turn_moments, moments_from, moments, nat_le, line_most}
@@ -25,6 +25,7 @@ use Rattle.kept_promise.proofs.RunsAsked.{turn_of, asked_turn, within}
 use Rattle.kept_promise.proofs.RunsResults.{asking, refused_line, no_world, ended_is}
 use Rattle.kept_promise.proofs.RecallsKept.{all_map, all_join}
 use Rattle.kept_promise.proofs.Claimed.{noted_of, noted_in, IsReadAt, KeepsWith, AreClocked}
+use Rattle.trace_replay.specs.Delivery.{taken_up}
 
 -- ---- lists
 
@@ -97,7 +98,7 @@ ups_all w n count now fresh = by (numbered w.wires n)
   where
     by : (o : Option Wire) → AllByRecursion (IsOfLine now fresh) (up_moments_at w n count now o)
     by None = tt
-    by (Some q) = serves_all (up_taken w n count q) n now fresh (fed q.server_end (take count q.up)).1.records
+    by (Some q) = serves_all (up_taken w n count q) n now fresh (taken_up (fed q.server_end (take count q.up)).1)
 
 abbrev owner_of : Option Session → Option ℕ
 owner_of None = None
@@ -189,8 +190,8 @@ module _ (times new : Times) (w : World) (kept : KeptSoFar times.clocks) where
           subst (λ (z : Times). EventLine times.clocks z.clocks w t) (times_are (record times { clocks = c }) new e)
           (subst (λ (d : Clocked). EventLine times.clocks d w t) (sym h.more) (record { fresh = fresh_by r (and_reading times.clocks r).server; reads = more; moments = of; header = header; stage = at_stage }))
 
-  -- a session has an owner
-  there : {A : Type 0} (o : Option Session) (t u : Turn) → asks_if (is_there o) u ≡ asking t → ((x : Session) → o ≡ Some x → A) → A
+  -- a session that something comes down is a client's
+  there : {A : Type 0} (o : Option Session) (t u : Turn) → asks_if (is_owned_at o) u ≡ asking t → ((x : Session) → o ≡ Some x → A) → A
   there None t u e h = refused_line Grammar t e
   there (Some x) t u e h = h x refl
 
@@ -206,6 +207,8 @@ module _ (times new : Times) (w : World) (kept : KeptSoFar times.clocks) where
       (downs_all (at_events w) n (count_of x (down_length (numbered w.wires n))) r times.clocks.server z.owner (owned n z at)) (λ h. refl) (λ s. refl))
   event_line (line.Settle s) dir e a = read_line (turn.Settle s) (reads.Server s) e ((refl, tt), tt) (λ h. refl) (λ s. refl)
   event_line (line.Cut c r) dir e a = read_line (turn.Cut c) (reads.Client c r) e ((tt, tt), tt) (λ h. refl) (λ s. refl)
+  event_line (line.RawJoin s) dir e a = read_line turn.RawJoin (reads.Server s) e ((tt, tt), tt) (λ h. refl) (λ s. refl)
+  event_line (line.Raw n bytes) dir e a = quiet_line (turn_of dir (line.Raw n bytes)) e refl (λ h. refl) (λ s. refl)
   event_line (line.Hang n s) dir e a = read_line (turn.Hang n) (reads.Server s) e ((tt, tt), tt) (λ h. refl) (λ s. refl)
   event_line (line.Pass n k s r) dir e a = there (numbered w.core.sessions n) (turn.Pass n k s r) (turn.Pass n k s r) a
       (λ z at. read_line (turn.Pass n k s r) (reads.Both s z.owner r) (sym (ap (λ (o : Option ℕ). times_with times (pass_timing s r o)) (owned n z at)) ∙ e)

@@ -19,7 +19,7 @@ use Rattle.kept_promise.proofs.Leading.{Sends, sent_ups, sent_downs, mix_downs_l
 use Rattle.kept_promise.proofs.RunsCarried.{MixStep}
 use Rattle.kept_promise.proofs.RecallsKept.{AreAwaited, AllBeside}
 use Rattle.kept_promise.proofs.Claimed.{Claimed, HasClaims, IsTalking, IsPromised, AllTails, ups_of, downs_of, way_of}
-use Rattle.kept_promise.proofs.ClaimWays.{downs_on, before_at, sent_is, ups_are}
+use Rattle.kept_promise.proofs.ClaimWays.{downs_on, before_at, sent_is, ups_are, none_is}
 use Rattle.kept_promise.proofs.ClaimFrame.{claim_of, Goes, note_goes, tails_map, promised_map}
 use Rattle.kept_promise.proofs.ClaimStill.{idle_claimed}
 use Rattle.kept_promise.proofs.ClaimServed.{pairs_are, finish}
@@ -127,7 +127,7 @@ module _ (k : Core) (ms : List Mix) (c : ℕ) (seat : Seat) (here : numbered k.s
         let r = mix_then n m.0 b.was m.1 b.there in
         let z = session_then n x y.0 at y.1 in
         let no_ups : sent_ups cut_step sent ≡ [] = none_mapped up_message (sent_ups cut_step sent) (ups_are cut_step sent ∙ nothing_up) in
-        let no_downs : downs_on n (sent_downs cut_step sent) ≡ [] = none_mapped _ (downs_on n (sent_downs cut_step sent)) (sent_is cut_step sent n) in
+        let no_downs : downs_on n (sent_downs cut_step sent) ≡ [] = none_mapped _ (downs_on n (sent_downs cut_step sent)) (none_is cut_step sent n refl) in
         let downs_same : p.0.downs ≡ b.was.downs = b.downs y.0 y.1 ∙ ap (unless y.0.cut b.was.downs) no_downs ∙ unless_nothing y.0.cut b.was.downs in
         record {
           x = x;

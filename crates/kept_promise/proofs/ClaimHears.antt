@@ -15,7 +15,7 @@ use Rattle.lease_law.specs.Claims.{IsAmong, IsNote, noted_at}
 use Rattle.kept_promise.proofs.Common.{Core, CoreStep, Seat, Session, Event, Event.Does, Event.Hears, happens, does, acted, commanded_sessions, session_of, numbered, with_numbered, Moment, Book, Opening, Command, Told, told_message, message_spell, Down, Down.Tells, Down.Recalls, tolds_in, Mix, queue_of, word_of, Queue, commanded_session, place_with, place_after}
 use Rattle.kept_promise.proofs.Lists.{some_is, nothing_there, same_or_not, set_count}
 use Rattle.kept_promise.proofs.Keys.{there_by}
-use Rattle.kept_promise.proofs.Turns.{around_with}
+use Rattle.kept_promise.proofs.Turns.{around_with, has_owner, owned_uncut}
 use Rattle.kept_promise.proofs.Heard.{told_pending}
 use Rattle.kept_promise.proofs.Moves.{told_there}
 use Rattle.kept_promise.proofs.Messages.{Job, job, CloseOf}
@@ -62,7 +62,7 @@ module _ {all past rest : List Moment} {opening : List Opening} {k : Core} {ms :
   pub below_are : (i : ℕ) (seat : Seat) → numbered k.seats i ≡ Some seat → (n : ℕ) (m : Mix) → seat.session ≡ Some n → numbered ms n ≡ Some m → AllByRecursion (IsBelow seat.client.next_xid) m.downs
   below_are i seat here n m mine is =
       let o = owners_are i seat n here mine in
-      let h = s.plain.kept.sessions n o.0 (queue_of m) o.1 (there_plain ms n m is) in
+      let h = s.plain.kept.sessions n o.0 (queue_of m) o.1 (there_plain ms n m is) (has_owner k.seats o.0 seat (ap (numbered k.seats) o.2 ∙ here)) in
       let same : h.seat ≡ seat = some_is h.seat seat (sym h.owner ∙ ap (numbered k.seats) o.2 ∙ here) in
       by o.0.cut refl h.shut (λ uncut. all_below seat.client.next_xid m.downs (λ j t at. subst (λ (z : Seat). t.xid < z.client.next_xid) same (told_below n k.server.waiting (queue_of m) o.0.hung h.seat.client j t (h.talk uncut).balanced at)))
     where
@@ -171,7 +171,7 @@ closes_small book k qs i seat n x q kept here there owner uncut is u task storin
 
     by : (j : Job) → job seat ≡ Some j → u.file < 18446744073709551616
     by j is_job =
-        let h = kept.sessions n x q there is in
+        let h = kept.sessions n x q there is (owned_uncut kept n x there uncut) in
         let same : h.seat ≡ seat = some_is h.seat seat (sym h.owner ∙ ap (numbered k.seats) owner ∙ here) in
         let q = job_task seat.place seat.client.task u j task is_job in
         subst (λ (f : ℕ). f < 18446744073709551616) q.0

@@ -32,7 +32,7 @@ use Rattle.kept_promise.proofs.Mixes.{DownFits}
 use Rattle.kept_promise.proofs.Replies.{recall_fits, Recalled, recall_heard, recalled_step, cache_without, without_adds}
 use Rattle.kept_promise.proofs.RecallsKept.{AreAwaited, AreTwo, AllOnce, AllBeside, IsBeside, all_join, all_map}
 use Rattle.kept_promise.proofs.Claimed.{Claimed, HasClaims, IsTalking, IsPromised, AllTails, ups_of, downs_of, way_of}
-use Rattle.kept_promise.proofs.ClaimWays.{downs_on, before_at, sent_is, ups_are, ups_unless}
+use Rattle.kept_promise.proofs.ClaimWays.{downs_on, before_at, sent_is, ups_are, ups_unless, none_is}
 use Rattle.kept_promise.proofs.ClaimFrame.{claim_of, Goes, note_goes, tails_map, promised_map}
 use Rattle.kept_promise.proofs.ClaimServed.{pairs_are, finish}
 use Rattle.kept_promise.proofs.ClaimHears.{owners_are}
@@ -136,7 +136,7 @@ module _ (k : Core) (ms : List Mix) (n now xid f : ℕ) (x : Session) (seat : Se
       pub ups : (ups_of p ≡ ups_of m) ⊎ (ups_of p ≡ ups_of m ++ reply_message xid ∷ [])
 
     nothing_down : (j : ℕ) → downs_on j (sent_downs step_ sent) ≡ []
-    nothing_down j = none_mapped _ (downs_on j (sent_downs step_ sent)) (sent_is step_ sent j)
+    nothing_down j = none_mapped _ (downs_on j (sent_downs step_ sent)) (none_is step_ sent j refl)
 
     here_then : Here
     here_then =

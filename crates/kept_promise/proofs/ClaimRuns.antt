@@ -15,7 +15,7 @@ use Rattle.server_law.specs.Facts.{IsGiven}
 use Rattle.lease_law.specs.Claims.{noted_at}
 use Rattle.lease_law.specs.Orderly.{IsOrderly}
 use Rattle.lease_law.proofs.lemmas.Fresh.{fresh_holds}
-use Rattle.kept_promise.proofs.Common.{Contains, Contains-push_cases, Core, Seat, Session, Event, Event.Joins, Event.Does, Event.Serves, Event.Hears, Event.Settles, Event.Cuts, Event.Hangs, happens, numbered, File, Moment, Opening, Mix, new_seat, Tree}
+use Rattle.kept_promise.proofs.Common.{Contains, Contains-push_cases, Core, Seat, Session, Event, Event.Joins, Event.Does, Event.Serves, Event.Hears, Event.Settles, Event.Cuts, Event.Hangs, happens, numbered, File, Moment, Opening, Mix, new_seat, Tree, Event.RawJoins}
 use Rattle.kept_promise.proofs.Lists.{some_is, nothing_there, of_replicate}
 use Rattle.kept_promise.proofs.Fits.{FitLaws}
 use Rattle.kept_promise.proofs.Rights.{acts_at, acts_for, AreLeased}
@@ -77,6 +77,7 @@ acting_notes k (Hears n r bytes) at P c now acts h = by (numbered k.sessions n) 
     by None acts h = nothing_there (c, now) acts
     by (Some x) acts h = subst (λ (p : ℕ × ℕ). P (noted_at p.0 p.1 at)) (some_is (x.owner, r) (c, now) acts) h.0
 acting_notes k (Joins i) at P c now acts h = nothing_there (c, now) acts
+acting_notes k RawJoins at P c now acts h = nothing_there (c, now) acts
 acting_notes k (Serves n r bytes) at P c now acts h = nothing_there (c, now) acts
 acting_notes k (Settles r) at P c now acts h = nothing_there (c, now) acts
 acting_notes k (Cuts i) at P c now acts h = nothing_there (c, now) acts

@@ -15,9 +15,9 @@ use Rattle.lease_law.specs.Orderly.{IsOrderly, sent_on, behind_with}
 use Rattle.lease_law.proofs.lemmas.Claiming.{behind_none}
 use Rattle.lease_law.proofs.lemmas.Events.{orderly_later}
 use Rattle.lease_law.proofs.lemmas.Settles.{settle_keeps}
-use Rattle.kept_promise.proofs.Common.{Core, CoreStep, Session, Event, Event.Hangs, happens, quiet, settles, hangs, hangs_if, numbered, with_numbered, Moment, Opening, reply_body, Down, Down.Tells, Down.Recalls, Mix, queue_of}
+use Rattle.kept_promise.proofs.Common.{Core, CoreStep, Session, Event, Event.Hangs, happens, quiet, settles, hangs, hangs_if, numbered, with_numbered, Moment, Opening, reply_body, Down, Down.Tells, Down.Recalls, Mix, queue_of, loses}
 use Rattle.kept_promise.proofs.Lists.{some_is, nothing_there, same_or_not}
-use Rattle.kept_promise.proofs.Turns.{Around, also_numbered, numbered_within, around_with}
+use Rattle.kept_promise.proofs.Turns.{Around, also_numbered, numbered_within, around_with, has_owner}
 use Rattle.kept_promise.proofs.Leading.{Sends, sent_downs, mix_ups_lost, mixes_lost, mixes_after}
 use Rattle.kept_promise.proofs.RunsCarried.{MixStep}
 use Rattle.kept_promise.proofs.RecallsKept.{AreAwaited, hung_awaited, hung_recalls, step_term}
@@ -26,7 +26,8 @@ use Rattle.kept_promise.proofs.ClaimWays.{downs_on, sent_is}
 use Rattle.kept_promise.proofs.ClaimFrame.{claim_of, server_orderly}
 use Rattle.kept_promise.proofs.ClaimGrants.{grants_by, lease_grants}
 use Rattle.kept_promise.proofs.ClaimStill.{quiet_claimed}
-use Rattle.kept_promise.proofs.ClaimServer.{Dropped, awaited_dropped, ServerTurn, server_claimed}
+use Rattle.kept_promise.proofs.ClaimServer.{Dropped, awaited_dropped, ServerTurn, server_claimed, whole_at, AreApart}
+use Rattle.kept_promise.proofs.Mixes.{there_plain}
 
 -- ---- the same in the run
 
@@ -37,6 +38,16 @@ length_map f (x ∷ xs) = ap suc (length_map f xs)
 module _ {all past rest : List Moment} {opening : List Opening} {k : Core} {ms : List Mix} {e : Event} {mid after : List Mix} (s : MixStep all past rest opening k ms e mid after) where
   pub made_is : length k.sessions ≡ k.server.sessions_made
   made_is = s.plain.kept.made.0
+
+  -- nothing is on its way on a session that is no client's
+  pub apart_are : AreApart k ms
+  apart_are = record {
+    none = λ n x m at is raw. (let shut = (s.plain.kept.strangers n x (queue_of m) at (there_plain ms n m is) raw).shut in let mix = s.fit n x m at is in (mix.strange raw, mix.shut shut, shut));
+    seated = λ i seat n x here mine at.
+        (let o = (s.plain.kept.seats i seat here).session n mine in
+        let same : o.0 ≡ x = some_is o.0 x (sym o.1 ∙ at) in
+        has_owner k.seats x seat (ap (λ (z : Session). numbered k.seats z.owner) (sym same) ∙ ap (numbered k.seats) o.2 ∙ here));
+  }
 
   pub pairs_are : length ms ≡ length k.sessions
   pairs_are = sym (length_map queue_of ms) ∙ s.plain.kept.made.1
@@ -79,7 +90,7 @@ settle_turn k ms mid now same = record {
   count = refl;
   sessions = λ n x y at is. (let e = some_is x y (sym at ∙ is) in (ap (λ (z : Session). z.owner) (sym e), ap (λ (z : Session). z.cut) (sym e)));
   rest = λ n m r at is. (let e : m ≡ r = some_is m r (sym at ∙ ap (λ (l : List Mix). numbered l n) (sym same) ∙ is) in (ap (λ (z : Mix). z.downs) (sym e), inl (ap ups_of e)));
-  own = λ n m at. tt;
+  own = λ n x m at owned is. tt;
 }
 
 pub settled_orderly : (s : server.State) (clock at now : ℕ) → clock ≤ now → at ≤ now → IsOrderly s clock → IsOrderly (server_step s (event.Settle at)).0 now
@@ -87,7 +98,7 @@ settled_orderly s clock at now le until o = (settle_keeps now (claim_of 1 0 0 0)
 
 -- ---- a connection is lost
 
-hang_turn : (k : Core) (ms mid : List Mix) (n : ℕ) (x : Session) → numbered k.sessions n ≡ Some x → mid ≡ ms → ServerTurn k ms mid (hangs_if k n x false) (event.Hang n)
+hang_turn : (k : Core) (ms mid : List Mix) (n : ℕ) (x : Session) → numbered k.sessions n ≡ Some x → mid ≡ ms → ServerTurn k ms mid (loses k n x) (event.Hang n)
 hang_turn k ms mid n x there same = record {
   server = refl;
   sends = no_sends;
@@ -98,7 +109,7 @@ hang_turn k ms mid n x there same = record {
   count = around.count;
   sessions = λ m y z at is. sessions_ m y z at is (same_or_not m n);
   rest = λ m q r at is. rest_ m q r at is (same_or_not m n);
-  own = λ m q at. tt;
+  own = λ m y q at owned is. tt;
 }
   where
     y_ : Session
@@ -107,7 +118,7 @@ hang_turn k ms mid n x there same = record {
     around : Around k.sessions (with_numbered k.sessions n y_) n y_
     around = around_with k.sessions n x y_ there
 
-    no_sends : (hangs_if k n x false).down ≡ (server_step k.server (event.Hang n)).1.send
+    no_sends : (loses k n x).down ≡ (server_step k.server (event.Hang n)).1.send
     no_sends = by (stands k.server n)
       where
         by : (b : Bool) → [] ≡ (server_hangs k.server b n).1.send
@@ -133,7 +144,7 @@ hang_turn k ms mid n x there same = record {
         let e : q ≡ r = some_is q r (sym at ∙ ap (λ (l : List Mix). numbered l m) (sym same) ∙ sym (around_mix.others m other) ∙ is) in
         (ap (λ (z : Mix). z.downs) (sym e), inl (ap ups_of e))
 
-    rest_ : (m : ℕ) (q r : Mix) → numbered ms m ≡ Some q → numbered (mixes_lost mid (hangs_if k n x false).loss) m ≡ Some r → (m ≡ n) ⊎ (m ≡ n → ⊥) → (r.downs ≡ q.downs) × Dropped (ups_of q) (ups_of r)
+    rest_ : (m : ℕ) (q r : Mix) → numbered ms m ≡ Some q → numbered (mixes_lost mid (loses k n x).loss) m ≡ Some r → (m ≡ n) ⊎ (m ≡ n → ⊥) → (r.downs ≡ q.downs) × Dropped (ups_of q) (ups_of r)
     rest_ m q r at is side = lost (numbered mid n) refl m q r at is side
 
 -- nothing is sent
@@ -143,14 +154,20 @@ none_told noted clock k i n way sent u ds ms e h = untold noted clock k i n way 
 pub still_behind : (way : Way) (downs : List Message) (n : ℕ) (sent : List Sent) → sent ≡ [] → behind_with way downs (sent_on n sent) ≡ downs
 still_behind way downs n sent e = ap (λ (l : List Sent). behind_with way downs (sent_on n l)) e ∙ behind_none way downs
 
-pub hung_claimed : {all past rest : List Moment} {opening : List Opening} {k : Core} {ms : List Mix} (n : ℕ) {mid after : List Mix} (s : MixStep all past rest opening k ms (Hangs n) mid after) (clock now : ℕ) (noted more : List Noted) → clock ≤ now → ((x : Noted) → IsAmong x noted → IsAmong x more)
-    → (x : Session) → numbered k.sessions n ≡ Some x → mid ≡ ms → Claimed noted clock k ms → Claimed more now (happens k (Hangs n)).core after
-hung_claimed {k = k} {ms = ms} n {mid = mid} {after = after} s clock now noted more le grows x there same h = by x.hung refl
+-- in whatever event the server sees it lost, or closes it
+pub lost_claimed : {all past rest : List Moment} {opening : List Opening} {k : Core} {ms : List Mix} {e : Event} (n : ℕ) {mid after : List Mix} (s : MixStep all past rest opening k ms e mid after) (clock now : ℕ) (noted more : List Noted) → clock ≤ now → ((x : Noted) → IsAmong x noted → IsAmong x more)
+    → (x : Session) → numbered k.sessions n ≡ Some x → mid ≡ ms → happens k e ≡ loses k n x → Claimed noted clock k ms → Claimed more now (happens k e).core after
+lost_claimed {k = k} {ms = ms} n {mid = mid} {after = after} s clock now noted more le grows x there same is h =
+    finish s more now (loses k n x) is (λ sent count.
+    server_claimed k ms mid (loses k n x) (event.Hang n) turn (made_is s) (pairs_are s) sent count (apart_are s) clock now noted more grows h le le
+    (let m = mix_ in let talk = h.talks n m.0 m.1 in let inside = numbered_within k.sessions n x there in let made = made_is s in
+    server_orderly k.server clock now (event.Hang n) h.orderly le le n some (omega (arith, inside, made)) (record { ups = ups_of m.0; cut = false }) (downs_of m.0.downs) talk.numbers tt)
+    (hung_recalls k.server false n h.recalls)
+    (λ m a owned. awaited_dropped (server_step k.server (event.Hang n)).0 m (ups_of a.m) (ups_of a.left) _ a.dropped
+    (subst (AreAwaited (server_step k.server (event.Hang n)).0 m (ups_of a.m)) (sym (still_behind (way_of a.x a.m) (downs_of a.m.downs) m (server_step k.server (event.Hang n)).1.send (sym turn.sends))) (hung_awaited k.server false n m (ups_of a.m) (downs_of a.m.downs) (h.talks m a.m a.m_there).awaited)))
+    (λ i seat u m a here task mine uncut. none_told more now (loses k n x).core i m (way_of a.y a.p) seat.client.sent u (downs_on m (sent_downs (loses k n x) sent)) [] (sent_is (loses k n x) sent m (whole_at a uncut)) tt))
   where
-    lost : Claimed more now (hangs_if k n x false).core after → x.hung ≡ false → Claimed more now (happens k (Hangs n)).core after
-    lost c unhung = subst (λ (t : CoreStep). Claimed more now t.core after) (sym (ap (hangs k n) there ∙ ap (hangs_if k n x) unhung)) c
-
-    turn : ServerTurn k ms mid (hangs_if k n x false) (event.Hang n)
+    turn : ServerTurn k ms mid (loses k n x) (event.Hang n)
     turn = hang_turn k ms mid n x there same
 
     some : 0 < n
@@ -163,13 +180,10 @@ hung_claimed {k = k} {ms = ms} n {mid = mid} {after = after} s clock now noted m
     mix_ : (m : Mix) × (numbered ms n ≡ Some m)
     mix_ = also_numbered k.sessions ms n x (pairs_are s) there
 
+pub hung_claimed : {all past rest : List Moment} {opening : List Opening} {k : Core} {ms : List Mix} (n : ℕ) {mid after : List Mix} (s : MixStep all past rest opening k ms (Hangs n) mid after) (clock now : ℕ) (noted more : List Noted) → clock ≤ now → ((x : Noted) → IsAmong x noted → IsAmong x more)
+    → (x : Session) → numbered k.sessions n ≡ Some x → mid ≡ ms → Claimed noted clock k ms → Claimed more now (happens k (Hangs n)).core after
+hung_claimed {k = k} {ms = ms} n {mid = mid} {after = after} s clock now noted more le grows x there same h = by x.hung refl
+  where
     by : (b : Bool) → x.hung ≡ b → Claimed more now (happens k (Hangs n)).core after
     by true hung = finish s more now (quiet k) (ap (hangs k n) there ∙ ap (hangs_if k n x) hung) (λ sent count. quiet_claimed k mid clock now noted more le grows sent (subst (Claimed noted clock k) (sym same) h))
-    by false unhung = finish s more now (hangs_if k n x false) (ap (hangs k n) there ∙ ap (hangs_if k n x) unhung) (λ sent count.
-        server_claimed k ms mid (hangs_if k n x false) (event.Hang n) turn (made_is s) (pairs_are s) sent count clock now noted more grows h le le
-        (let m = mix_ in let talk = h.talks n m.0 m.1 in let inside = numbered_within k.sessions n x there in let made = made_is s in
-        server_orderly k.server clock now (event.Hang n) h.orderly le le n some (omega (arith, inside, made)) (record { ups = ups_of m.0; cut = false }) (downs_of m.0.downs) talk.numbers tt)
-        (hung_recalls k.server false n h.recalls)
-        (λ m a. awaited_dropped (server_step k.server (event.Hang n)).0 m (ups_of a.m) (ups_of a.left) _ a.dropped
-        (subst (AreAwaited (server_step k.server (event.Hang n)).0 m (ups_of a.m)) (sym (still_behind (way_of a.x a.m) (downs_of a.m.downs) m (server_step k.server (event.Hang n)).1.send (sym turn.sends))) (hung_awaited k.server false n m (ups_of a.m) (downs_of a.m.downs) (h.talks m a.m a.m_there).awaited)))
-        (λ i seat u m a here task mine uncut. none_told more now (hangs_if k n x false).core i m (way_of a.y a.p) seat.client.sent u (downs_on m (sent_downs (hangs_if k n x false) sent)) [] (sent_is (hangs_if k n x false) sent m) tt))
+    by false unhung = lost_claimed n s clock now noted more le grows x there same (ap (hangs k n) there ∙ ap (hangs_if k n x) unhung) h

@@ -33,7 +33,7 @@ use Rattle.trace_ends.specs.Core.{server_got}
 use Rattle.lease_law.specs.Claims.{Way, IsAmong, IsPromise, answered_by, stored_by}
 use Rattle.lease_law.specs.Orderly.{sent_on}
 use Rattle.lease_law.proofs.lemmas.Asking.{sent_one}
-use Rattle.kept_promise.proofs.Common.{Core, CoreStep, Seat, Session, Event.Serves, happens, numbered, with_numbered, Moment, Opening, Ask, Told, told_message, reply_body, Up, Up.Asks, Up.Replies, up_message, Down, Mix, asks_in, ask_message, reply_message, Call, Call.Lease, Call.Hash, Call.Walks, Call.Read, Call.Make, Call.Name, Call.Send, Call.Commit, call_message, taken_with, end_of}
+use Rattle.kept_promise.proofs.Common.{Core, CoreStep, Seat, Session, Event.Serves, happens, numbered, with_numbered, Moment, Opening, Ask, Told, told_message, reply_body, Up, Up.Asks, Up.Replies, up_message, Down, Mix, asks_in, ask_message, reply_message, Call, Call.Lease, Call.Hash, Call.Walks, Call.Read, Call.Make, Call.Name, Call.Send, Call.Commit, call_message, taken_with, end_of, is_raw}
 use Rattle.kept_promise.proofs.Lists.{some_is, nothing_there, same_or_not}
 use Rattle.kept_promise.proofs.Turns.{Around, numbered_within, around_with}
 use Rattle.kept_promise.proofs.Messages.{Job, job, CallOf, IsAsked, IsCommit, AllAsks, lease_xid, hash_offset}
@@ -48,8 +48,8 @@ use Rattle.kept_promise.proofs.ClaimFrame.{server_orderly, tails_map}
 use Rattle.kept_promise.proofs.ClaimGrants.{lease_grants, IsLeaseless, call_grantless, on_grantless}
 use Rattle.kept_promise.proofs.ClaimCalls.{one_tail, none_committed, NotCommitting, job_task, Own, own_session}
 use Rattle.kept_promise.proofs.ClaimTold.{lease_promised, hash_promised}
-use Rattle.kept_promise.proofs.ClaimServer.{Dropped, awaited_dropped, ServerTurn, At, server_claimed}
-use Rattle.kept_promise.proofs.ClaimServed.{made_is, pairs_are, finish, none_told, promised_as, still_behind}
+use Rattle.kept_promise.proofs.ClaimServer.{Dropped, awaited_dropped, ServerTurn, At, server_claimed, whole_at}
+use Rattle.kept_promise.proofs.ClaimServed.{made_is, pairs_are, finish, none_told, promised_as, still_behind, apart_are}
 
 -- ---- a message is taken off its way
 
@@ -64,7 +64,7 @@ taken_turn k ms n now x m u us there is first = record {
   count = around.count;
   sessions = λ j y z at to. sessions_ j y z at to (same_or_not j n);
   rest = λ j q r at to. rest_ j q r at to (same_or_not j n);
-  own = λ j q at mine. subst (λ (l : List Message). IsAmong (up_message u) l) (sym (ups_first j q at mine)) (inl refl);
+  own = λ j y q there_ owned at mine. subst (λ (l : List Message). IsAmong (up_message u) l) (sym (ups_first j q at mine)) (inl refl);
 }
   where
     taken : Session
@@ -103,9 +103,9 @@ left_other ms n j m l q us is apart there at = ap ups_of (some_is q l (sym there
 -- ---- an answer to a RECALL
 
 pub reply_taken_claimed : {all past rest : List Moment} {opening : List Opening} {k : Core} {ms : List Mix} (n now : ℕ) (bytes : List ℕ) {mid after : List Mix} (s : MixStep all past rest opening k ms (Serves n now bytes) mid after) (clock : ℕ) (noted more : List Noted) → clock ≤ now → ((x : Noted) → IsAmong x noted → IsAmong x more)
-    → (x : Session) (m : Mix) (xid : ℕ) (us : List Up) → numbered k.sessions n ≡ Some x → numbered ms n ≡ Some m → m.ups ≡ Replies xid ∷ us → mid ≡ with_numbered ms n (record m { ups = us }) → happens k (Serves n now bytes) ≡ server_got k n now x (reply_message xid)
+    → (x : Session) (m : Mix) (xid : ℕ) (us : List Up) → numbered k.sessions n ≡ Some x → numbered ms n ≡ Some m → is_raw x ≡ false → m.ups ≡ Replies xid ∷ us → mid ≡ with_numbered ms n (record m { ups = us }) → happens k (Serves n now bytes) ≡ server_got k n now x (reply_message xid)
     → Claimed noted clock k ms → Claimed more now (happens k (Serves n now bytes)).core after
-reply_taken_claimed {k = k} {ms = ms} n now bytes {mid = mid} {after = after} s clock noted more le grows x m xid us there is first mid_is does h =
+reply_taken_claimed {k = k} {ms = ms} n now bytes {mid = mid} {after = after} s clock noted more le grows x m xid us there is owned first mid_is does h =
     finish s more now t does (λ sent. subst (λ (l : List Mix). length (mixes_after l t sent) ≡ length t.core.sessions → Claimed more now t.core (mixes_after l t sent)) (sym mid_is) (go sent))
   where
     t : CoreStep
@@ -126,11 +126,11 @@ reply_taken_claimed {k = k} {ms = ms} n now bytes {mid = mid} {after = after} s 
         let talk = h.talks n m is in
         let inside = numbered_within k.sessions n x there in
         let made = made_is s in
-        server_claimed k ms (with_numbered ms n (record m { ups = us })) t (event.Got n (reply_message xid) now) turn (made_is s) (pairs_are s) sent count clock now noted more grows h (le, omega arith) le
-        (server_orderly k.server clock now (event.Got n (reply_message xid) now) h.orderly (le, omega arith) le n some (omega (arith, inside, made)) (record { ups = ups_of m; cut = false }) (downs_of m.downs) talk.numbers (turn.own n m is))
+        server_claimed k ms (with_numbered ms n (record m { ups = us })) t (event.Got n (reply_message xid) now) turn (made_is s) (pairs_are s) sent count (apart_are s) clock now noted more grows h (le, omega arith) le
+        (server_orderly k.server clock now (event.Got n (reply_message xid) now) h.orderly (le, omega arith) le n some (omega (arith, inside, made)) (record { ups = ups_of m; cut = false }) (downs_of m.downs) talk.numbers (turn.own n x m there owned is))
         (answered_recalls k.server n xid now h.recalls)
-        (λ j a. subst (AreAwaited t.core.server j (ups_of a.left)) (sym (still_behind (way_of a.x a.m) (downs_of a.m.downs) j (server_step k.server (event.Got n (reply_message xid) now)).1.send (answered_sends k.server n xid now))) (awaits j a (same_or_not j n)))
-        (λ i seat u j a here task mine uncut. none_told more now t.core i j (way_of a.y a.p) seat.client.sent u (downs_on j (sent_downs t sent)) [] (sent_is t sent j ∙ ap (sent_on j) (answered_sends k.server n xid now)) tt)
+        (λ j a own. subst (AreAwaited t.core.server j (ups_of a.left)) (sym (still_behind (way_of a.x a.m) (downs_of a.m.downs) j (server_step k.server (event.Got n (reply_message xid) now)).1.send (answered_sends k.server n xid now))) (awaits j a (same_or_not j n)))
+        (λ i seat u j a here task mine uncut. none_told more now t.core i j (way_of a.y a.p) seat.client.sent u (downs_on j (sent_downs t sent)) [] (sent_is t sent j (whole_at a uncut) ∙ ap (sent_on j) (answered_sends k.server n xid now)) tt)
       where
         awaits : (j : ℕ) (a : At k ms (with_numbered ms n (record m { ups = us })) t (mixes_after (with_numbered ms n (record m { ups = us })) t sent) j (downs_on j (sent_downs t sent))) → (j ≡ n) ⊎ (j ≡ n → ⊥) → AreAwaited t.core.server j (ups_of a.left) (downs_of a.m.downs)
         awaits j a (inl mine) =
@@ -192,7 +192,7 @@ step_tails more now k l i j way sent u ds r server_ drift h =
 promise_indexed : (s : server.State) (ix : Indexed) (clock drift : ℕ) (noted : List Noted) (i n f version term sent : ℕ) (way : Way) → IsPromise s clock drift noted i n f version term sent way [] → IsPromise (record s { index = ix }) clock drift noted i n f version term sent way []
 promise_indexed s ix clock drift noted i n f version term sent way h = λ lt. let p = h lt in (p.0, record { base = p.1.base; known = p.1.known; claim = p.1.claim })
 
-elsewhere : (n j : ℕ) (m : Message) → (j ≡ n → ⊥) → sent_on j (record { session = n; message = m } ∷ []) ≡ []
+pub elsewhere : (n j : ℕ) (m : Message) → (j ≡ n → ⊥) → sent_on j (record { session = n; message = m } ∷ []) ≡ []
 elsewhere n j m apart = by (n == j) refl
   where
     by : (b : Bool) → (n == j) ≡ b → map (λ (z : Sent). z.message) (cond b (record { session = n; message = m } ∷ []) []) ≡ []
@@ -200,10 +200,10 @@ elsewhere n j m apart = by (n == j) refl
     by false q = refl
 
 pub ask_taken_claimed : {all past rest : List Moment} {opening : List Opening} {k : Core} {ms : List Mix} (n now : ℕ) (bytes : List ℕ) {mid after : List Mix} (s : MixStep all past rest opening k ms (Serves n now bytes) mid after) (clock : ℕ) (noted more : List Noted) → clock ≤ now → ((x : Noted) → IsAmong x noted → IsAmong x more)
-    → (x : Session) (m : Mix) (a : Ask) (us : List Up) → numbered k.sessions n ≡ Some x → numbered ms n ≡ Some m → m.ups ≡ Asks a ∷ us → mid ≡ with_numbered ms n (record m { ups = us }) → stands k.server n ≡ true → happens k (Serves n now bytes) ≡ server_got k n now x (ask_message a)
+    → (x : Session) (m : Mix) (a : Ask) (us : List Up) → numbered k.sessions n ≡ Some x → numbered ms n ≡ Some m → is_raw x ≡ false → m.ups ≡ Asks a ∷ us → mid ≡ with_numbered ms n (record m { ups = us }) → stands k.server n ≡ true → happens k (Serves n now bytes) ≡ server_got k n now x (ask_message a)
     → Claimed noted clock k ms → Claimed more now (happens k (Serves n now bytes)).core after
 unfolding call_is
-ask_taken_claimed {all = all} {opening = opening} {k = k} {ms = ms} n now bytes {mid = mid} {after = after} s clock noted more le grows x m a us there is first mid_is up does h =
+ask_taken_claimed {all = all} {opening = opening} {k = k} {ms = ms} n now bytes {mid = mid} {after = after} s clock noted more le grows x m a us there is owned first mid_is up does h =
     finish s more now t does (λ sent. subst (λ (l : List Mix). length (mixes_after l t sent) ≡ length t.core.sessions → Claimed more now t.core (mixes_after l t sent)) (sym mid_is) (go sent))
   where
     t : CoreStep
@@ -236,7 +236,7 @@ ask_taken_claimed {all = all} {opening = opening} {k = k} {ms = ms} n now bytes 
         ds = downs_on j (sent_downs t sent)
 
         sent_as : (q : server.State × ServerStep) → r ≡ q → downs_of ds ≡ sent_on j q.1.send
-        sent_as q e = sent_is t sent j ∙ ap (λ (w : server.State × ServerStep). sent_on j w.1.send) e
+        sent_as q e = sent_is t sent j (whole_at z uncut) ∙ ap (λ (w : server.State × ServerStep). sent_on j w.1.send) e
 
         untold_ : (c : Call) → a.call ≡ c → IsLeaseless (call_is a.lbfs a.xid c).0 → AllTails (IsPromised more now t.core i j (way_of z.y z.p) seat.client.sent u) ds
         untold_ c e none =
@@ -358,8 +358,8 @@ ask_taken_claimed {all = all} {opening = opening} {k = k} {ms = ms} n now bytes 
         let talk = h.talks n m is in
         let inside = numbered_within k.sessions n x there in
         let made = made_is s in
-        server_claimed k ms then_ t (event.Got n (ask_message a) now) turn (made_is s) (pairs_are s) sent count clock now noted more grows h (le, omega arith) le
-        (server_orderly k.server clock now (event.Got n (ask_message a) now) h.orderly (le, omega arith) le n some (omega (arith, inside, made)) (record { ups = ups_of m; cut = false }) (downs_of m.downs) talk.numbers (turn.own n m is))
+        server_claimed k ms then_ t (event.Got n (ask_message a) now) turn (made_is s) (pairs_are s) sent count (apart_are s) clock now noted more grows h (le, omega arith) le
+        (server_orderly k.server clock now (event.Got n (ask_message a) now) h.orderly (le, omega arith) le n some (omega (arith, inside, made)) (record { ups = ups_of m; cut = false }) (downs_of m.downs) talk.numbers (turn.own n x m there owned is))
         (moves_recalls k.server r moves h.recalls)
-        (λ j z. awaited_dropped r.0 j (ups_of z.m) (ups_of z.left) _ z.dropped (let w = h.talks j z.m z.m_there in moves_awaited k.server j (way_of z.x z.m) (downs_of z.m.downs) h.recalls w.numbers w.awaited r moves))
+        (λ j z own. awaited_dropped r.0 j (ups_of z.m) (ups_of z.left) _ z.dropped (let w = h.talks j z.m z.m_there in moves_awaited k.server j (way_of z.x z.m) (downs_of z.m.downs) h.recalls w.numbers w.awaited r moves))
         (λ i seat u j z here task mine uncut. promises sent i seat u j z here task mine uncut)

@@ -11,6 +11,7 @@ use Rattle.trace_ends.specs.Core.{idles}
 use Rattle.kept_promise.proofs.Leading.{Sends, sent_message, sent_ups, sent_downs, recall_down, told_down, mix_ups, mix_downs, mixes_lost, mixes_after}
 use Rattle.kept_promise.proofs.Claimed.{Claimed, HasClaims, IsPromised, downs_of, way_of}
 use Rattle.kept_promise.proofs.ClaimFrame.{claim_of, note_goes, tails_map, promised_map}
+use Rattle.kept_promise.proofs.Lists.{none_behind}
 
 -- ---- nothing is sent
 
@@ -24,7 +25,7 @@ map_none_last f (x ∷ xs) e = absurd cc
 
 pub mixes_still : (t : CoreStep) → t.session ≡ None → t.down ≡ [] → (sent : Sends t) (ms : List Mix) → mixes_after ms t sent ≡ mixes_lost ms t.loss
 mixes_still t none down sent ms =
-    let a = map_none recall_sent sent.recalls (map sent_message sent.tolds) (sym down ∙ sent.down_is) in
+    let a = map_none recall_sent sent.recalls (map sent_message sent.tolds) (none_behind sent.strays (map recall_sent sent.recalls ++ map sent_message sent.tolds) (sym down ∙ sent.down_is)) in
     let b = map_none_last sent_message sent.tolds a.1 in
     ap (λ (o : Option ℕ). mix_downs t.core.sessions (mix_ups t.core.sessions lost o (sent_ups t sent)) (sent_downs t sent)) none
     ∙ ap (λ (l : List Asked). mix_downs t.core.sessions lost (map recall_down l ++ map told_down sent.tolds)) a.0

@@ -1,5 +1,5 @@
 -- What is on its way on a session after an event, message by message.
-use Rattle.std.proofs.Common.{◌≡◌, ◌⊎◌, inl, inr, ℕ, List, [], ◌∷◌, ◌++◌, Option, Some, None, Bool, true, false, refl, sym, ap, ◌∙◌, arith, map}
+use Rattle.std.proofs.Common.{◌≡◌, ◌⊎◌, inl, inr, ℕ, List, [], ◌∷◌, ◌++◌, Option, Some, None, Bool, true, false, refl, sym, ap, ◌∙◌, arith, map, eqb-true}
 use Rattle.std.specs.Prelude.{◌==◌, cond, filter, if◌then◌else◌}
 use Rattle.std.proofs.lemmas.Bool.Decides.{nat_tests}
 use Rattle.std.proofs.lemmas.List.{append_assoc}
@@ -8,10 +8,11 @@ use Rattle.server_core.specs.Recalling.{recall_sent}
 use Rattle.server_core.specs.declared.event.Sent.{Sent}
 use Rattle.lease_law.specs.Claims.{Way}
 use Rattle.lease_law.specs.Orderly.{sent_on, behind_with}
+use Rattle.std.specs.List.{AllByRecursion}
 use Rattle.kept_promise.proofs.Common.{Session, CoreStep, numbered, with_numbered, unless, Up, Up.Asks, Up.Replies, Down, Mix, up_message, down_message, reply_message}
-use Rattle.kept_promise.proofs.Lists.{some_is, nothing_there, same_or_not}
+use Rattle.kept_promise.proofs.Lists.{some_is, nothing_there, same_or_not, none_behind, true_and_false}
 use Rattle.kept_promise.proofs.Turns.{around_with}
-use Rattle.kept_promise.proofs.Leading.{Sends, sent_ups, recall_down, told_down, sent_downs, mix_ups_in, mix_ups, mix_downs_in, mix_downs, mixes_lost, mixes_after}
+use Rattle.kept_promise.proofs.Leading.{Sends, sent_ups, recall_down, told_down, sent_downs, mix_ups_in, mix_ups, mix_downs_in, mix_downs, mixes_lost, mixes_after, IsStray}
 use Rattle.kept_promise.proofs.Claimed.{downs_of}
 
 -- ---- what is put up
@@ -203,12 +204,12 @@ ups_unless false us more = map_append up_message us more
 abbrev down_sent : ℕ × Down → Sent
 down_sent p = record { session = p.0; message = down_message p.1 }
 
-pub downs_are : (t : CoreStep) (s : Sends t) → t.down ≡ map down_sent (sent_downs t s)
+pub downs_are : (t : CoreStep) (s : Sends t) → t.down ≡ s.strays ++ map down_sent (sent_downs t s)
 downs_are t s =
     s.down_is
-    ∙ sym (map_append down_sent (map recall_down s.recalls) (map told_down s.tolds)
+    ∙ ap (λ (l : List Sent). s.strays ++ l) (sym (map_append down_sent (map recall_down s.recalls) (map told_down s.tolds)
     ∙ ap (λ (l : List Sent). l ++ map down_sent (map told_down s.tolds)) (map_map recall_down down_sent s.recalls)
-    ∙ ap (λ (l : List Sent). map recall_sent s.recalls ++ l) (map_map told_down down_sent s.tolds))
+    ∙ ap (λ (l : List Sent). map recall_sent s.recalls ++ l) (map_map told_down down_sent s.tolds)))
 
 on_sent : (n : ℕ) (ps : List (ℕ × Down)) → sent_on n (map down_sent ps) ≡ downs_of (downs_on n ps)
 on_sent n [] = refl
@@ -219,9 +220,31 @@ on_sent n (p ∷ ps) = by (p.0 == n) (on_sent n ps)
     by true later = ap (λ (l : List Message). down_message p.1 ∷ l) later
     by false later = later
 
--- what is put down a session are the messages that are sent on it
-pub sent_is : (t : CoreStep) (s : Sends t) (n : ℕ) → downs_of (downs_on n (sent_downs t s)) ≡ sent_on n t.down
-sent_is t s n = sym (ap (sent_on n) (downs_are t s) ∙ on_sent n (sent_downs t s))
+sent_more : (n : ℕ) (xs ys : List Sent) → sent_on n (xs ++ ys) ≡ sent_on n xs ++ sent_on n ys
+sent_more n [] ys = refl
+sent_more n (x ∷ xs) ys = by (x.session == n) (sent_more n xs ys)
+  where
+    by : (b : Bool) → sent_on n (xs ++ ys) ≡ sent_on n xs ++ sent_on n ys
+        → map (λ (z : Sent). z.message) (cond b (x ∷ filter (λ z. z.session == n) (xs ++ ys)) (filter (λ z. z.session == n) (xs ++ ys))) ≡ map (λ (z : Sent). z.message) (cond b (x ∷ filter (λ z. z.session == n) xs) (filter (λ z. z.session == n) xs)) ++ sent_on n ys
+    by true later = ap (λ (l : List Message). x.message ∷ l) later
+    by false later = later
+
+-- what nobody hears goes down no session that its client hasn't left
+strays_else : (sessions : List Session) (xs : List Sent) (n : ℕ) → AllByRecursion (IsStray sessions) xs → ((y : Session) → numbered sessions n ≡ Some y → y.cut ≡ false) → sent_on n xs ≡ []
+strays_else sessions [] n all whole = refl
+strays_else sessions (x ∷ xs) n all whole = by (x.session == n) refl (strays_else sessions xs n all.1 whole)
+  where
+    by : (b : Bool) → (x.session == n) ≡ b → sent_on n xs ≡ [] → map (λ (z : Sent). z.message) (cond b (x ∷ filter (λ z. z.session == n) xs) (filter (λ z. z.session == n) xs)) ≡ []
+    by true is later = absurd (true_and_false (all.0.0).cut all.0.2 (whole all.0.0 (ap (numbered sessions) (sym (eqb-true x.session n is)) ∙ all.0.1)))
+    by false is later = later
+
+-- what is put down a session that its client hasn't left are the messages that are sent on it
+pub sent_is : (t : CoreStep) (s : Sends t) (n : ℕ) → ((y : Session) → numbered t.core.sessions n ≡ Some y → y.cut ≡ false) → downs_of (downs_on n (sent_downs t s)) ≡ sent_on n t.down
+sent_is t s n whole = sym (ap (sent_on n) (downs_are t s) ∙ sent_more n s.strays (map down_sent (sent_downs t s)) ∙ ap (λ (l : List Message). l ++ sent_on n (map down_sent (sent_downs t s))) (strays_else t.core.sessions s.strays n s.strays_cut whole) ∙ on_sent n (sent_downs t s))
+
+-- where nothing is sent nothing is put down
+pub none_is : (t : CoreStep) (s : Sends t) (n : ℕ) → t.down ≡ [] → downs_of (downs_on n (sent_downs t s)) ≡ []
+none_is t s n none = sym (on_sent n (sent_downs t s)) ∙ ap (sent_on n) (sym (none_behind s.strays (map down_sent (sent_downs t s)) (sym none ∙ downs_are t s)))
 
 pub ups_are : (t : CoreStep) (s : Sends t) → map up_message (sent_ups t s) ≡ t.up
 ups_are t s =

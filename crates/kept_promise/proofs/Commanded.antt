@@ -3,7 +3,7 @@ use Rattle.std.proofs.Common.{◌≡◌, ℕ, zero, suc, ◌+◌, List, [], ◌�
 use Rattle.trace_text.specs.declared.line.Line.TheVariants as line
 use Rattle.trace_replay.specs.declared.turn.Turn.TheVariants as turn
 use Rattle.trace_replay.specs.Trail.{told_in, event_by, events_of, told_by, told_of, command_by, commands_of}
-use Rattle.kept_promise.proofs.Common.{flat_map, fed, lines_of, Command, line_of, Line, LineFault, Turn, Event, Event.Joins, Event.Does, Event.Serves, Event.Hears, Event.Settles, Event.Cuts, Event.Hangs, numbered, World, Wire, start, happened, up_taken, down_taken, up_length, down_length, up_all, round, is_still, at_events, count_of, asked, asked_by, turned, run_from, run, Moment, Deed, deed_by, deeds_from, deeds_of, step_of, moments_of, up_moments_at, up_moments, down_moments_at, down_moments, round_moments, passes_moments, turn_moments, moments_from, moments}
+use Rattle.kept_promise.proofs.Common.{flat_map, fed, lines_of, Command, line_of, Line, LineFault, Turn, Event, Event.Joins, Event.Does, Event.Serves, Event.Hears, Event.Settles, Event.Cuts, Event.Hangs, numbered, World, Wire, start, happened, up_taken, down_taken, up_length, down_length, up_all, round, is_still, at_events, count_of, asked, asked_by, turned, run_from, run, Moment, Deed, deed_by, deeds_from, deeds_of, step_of, moments_of, up_moments_at, up_moments, down_moments_at, down_moments, round_moments, passes_moments, turn_moments, moments_from, moments, Event.RawJoins, taken_up}
 use Rattle.kept_promise.proofs.RunsAsked.{turn_of, asked_turn}
 use Rattle.kept_promise.proofs.RunsResults.{no_world, ran_by, moments_by}
 
@@ -31,7 +31,7 @@ up_told w n count now = by (numbered w.wires n)
   where
     by : (o : Option Wire) → told_of (up_moments_at w n count now o) ≡ []
     by None = refl
-    by (Some q) = serves_told (up_taken w n count q) n now (fed q.server_end (take count q.up)).1.records
+    by (Some q) = serves_told (up_taken w n count q) n now (taken_up (fed q.server_end (take count q.up)).1)
 
 down_told : (w : World) (n count now : ℕ) → told_of (down_moments w n count now) ≡ []
 down_told w n count now = by (numbered w.wires n)
@@ -64,6 +64,7 @@ turn_told (turn.Do c now d) = Does c now d ∷ []
 turn_told (turn.Settle now) = Settles now ∷ []
 turn_told (turn.Cut c) = Cuts c ∷ []
 turn_told (turn.Hang n) = Hangs n ∷ []
+turn_told turn.RawJoin = RawJoins ∷ []
 turn_told t = []
 
 turn_tells : (w : World) (t : Turn) → told_of (turn_moments w t) ≡ turn_told t

@@ -214,7 +214,7 @@ leads_begins book k qs c seat w file value cache sent temp s a acts g l send end
     let core = cut_core book more k k.server seats sessions (k.ops ++ new ∷ []) (ap (λ z. z + 1) g.kept.steps) (ap (λ (z : List Op). z ++ new ∷ []) g.kept.ops) g.kept.entries in
     let one = subst (λ (z : Core). IsKept more z after) core now in
     record {
-      sends = record { replies = []; replies_fit = tt; asks = a ∷ []; up_is = send; recalls = []; recalls_fit = tt; tolds = []; down_is = refl };
+      sends = record { replies = []; replies_fit = tt; asks = a ∷ []; up_is = send; strays = []; strays_cut = tt; recalls = []; recalls_fit = tt; tolds = []; down_is = refl };
       more = more;
       moments = refl;
       opening = refl;

@@ -114,7 +114,7 @@ leads_waits book k qs n now x q lbfs xid m f size us temps content g were same r
 
 -- ---- whatever becomes of it
 
-not_full : (a b c d : ℕ) → (nat_lt a b || nat_lt c d) ≡ false → (b ≤ a) × (d ≤ c)
+pub not_full : (a b c d : ℕ) → (nat_lt a b || nat_lt c d) ≡ false → (b ≤ a) × (d ≤ c)
 not_full a b c d e = by (nat_lt a b) refl e
   where
     by : (t : Bool) → nat_lt a b ≡ t → (t || nat_lt c d) ≡ false → (b ≤ a) × (d ≤ c)

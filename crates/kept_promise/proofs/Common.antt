@@ -104,19 +104,19 @@ pub use Rattle.trace_replay.specs.Book.{Book, value_at, version_at, Or, book_of,
 pub use Rattle.trace_replay.specs.Causes.{Tried, own_answer, is_busy, leaves, after_one, local_from, IsOpenRefused, can_ask, can_go, IsOpened, lasts, unless_asks, write_outcome, sized_outcome, local_before, IsClosed, IsChanged, HasCause, IsLost, IsEntered}
 pub use Rattle.trace_ends.specs.Commands.{word_of, file_of, value_at_begin}
 pub use Rattle.trace_ends.specs.Numbers.{numbered, with_numbered}
-pub use Rattle.trace_ends.specs.Session.{Session, Seat, session_of, is_newest, taken_of, settled_ops, new_seat, new_session, commanded_session, taken_with}
-pub use Rattle.trace_ends.specs.Core.{Core, Event.Serves, CoreStep, Event.Hears, happens, Event, Event.Cuts, server_waiting, server_waits, Event.Joins, Event.Does, Event.Settles, Event.Hangs, serves_if, serves, cuts_if, does, joins_as, cuts, joins, hangs_if, hangs, acted, Loss.Nothing, hears, hears_at, hears_if, settles, Loss, commanded_sessions, settled_by, cut_session, Loss.Down_of, Loss.Up_of, quiet}
+pub use Rattle.trace_ends.specs.Session.{is_raw, raw_session, Session, Seat, session_of, is_newest, taken_of, settled_ops, new_seat, new_session, commanded_session, taken_with}
+pub use Rattle.trace_ends.specs.Core.{Core, Event.Serves, CoreStep, Event.Hears, happens, Event, Event.Cuts, server_waiting, server_waits, Event.Joins, Event.Does, Event.Settles, Event.Hangs, Event.RawJoins, serves_if, serves_none, serves_unless, loses, raw_joins, raw_joins_as, raws_with, raws_on, serves, cuts_if, does, joins_as, cuts, joins, hangs_if, hangs, acted, Loss.Nothing, hears, hears_at, hears_if, settles, Loss, commanded_sessions, settled_by, cut_session, Loss.Down_of, Loss.Up_of, quiet}
 pub use Rattle.trace_ends.specs.Ops.{ops_with, ops_after, op_after, counted, has_point, point_if, place_after, told_of, no_traffic, begun, place_with, taken_at, value_of, ended_op, pointed, pointed_at, op_ended, closing_with}
-pub use Rattle.trace_replay.specs.Delivery.{all_happened, up_at, down_at, up_length, down_length, up_some, down_some, up_all, round, is_still, passes, up_taken, down_taken, up_events, down_events}
+pub use Rattle.trace_replay.specs.Delivery.{taken_up, all_happened, up_at, down_at, up_length, down_length, up_some, down_some, up_all, round, is_still, passes, up_taken, down_taken, up_events, down_events}
 pub use Rattle.trace_ends.specs.Wires.{is_still_at, unless, Wire, bytes_of, up_put, up_put_in, new_wire}
 pub use Rattle.trace_replay.specs.Faithful.{is_running, CameTo, IsDone, TellsVersion}
 pub use Rattle.trace_replay.specs.Readings.{KeepsClocks}
-pub use Rattle.trace_replay.specs.Run.{turned, run, asked, run_from, at_events, asked_by, line_most, sessions_most, asks_if, sized, joins_if, joins_within, event_asks, asks_at, asks, in_header, ended, asks_within}
+pub use Rattle.trace_replay.specs.Run.{raw_joins_within, turned, run, asked, run_from, at_events, asked_by, line_most, sessions_most, asks_if, sized, joins_if, joins_within, event_asks, asks_at, asks, in_header, ended, asks_within}
 pub use Rattle.trace_ends.specs.Queue.{count_of}
 pub use Rattle.trace_replay.specs.Timed.{owners_of, accepted}
 pub use Rattle.trace_replay.specs.Traffic.{Deal, deals_with, Deal.Sent, deals_of, Deal.Took, Deal.Found, stored_traffic, until, is_of, SentCommit, sent_traffic, taken_traffic, both, is_in, deals_in, CountsOwn, is_commit, number_if, first_number}
 pub use Rattle.trace_replay.specs.Trail.{Moment, hashed_of, owner_in, Deed, step_of, Said, all_said, client_of, wanted_by, taken_by, deeds_of, turn_moments, moments, sent_of, deed_by, moments_from, hashed_by, wanted_if, taken_if, taken_from, deeds_from, moments_of, up_moments_at, up_moments, down_moments_at, down_moments, round_moments, passes_moments, sent_in, calls_in, asked_in, joined_by, joined_from, calls_among, sent_if, calls_by, calls_from, given_by}
-pub use Rattle.trace_replay.specs.World.{World, adjusts, happened, start, lost_by, down_put, routed, down_put_in, down_lost, up_lost}
+pub use Rattle.trace_replay.specs.World.{raws_of, World, adjusts, happened, start, lost_by, down_put, routed, down_put_in, down_lost, up_lost}
 pub use Rattle.trace_replay.specs.declared.fault.Refused.{Refused}
 pub use Rattle.session_rules.specs.declared.taken_call.TakenCall.{TakenCall}
 pub use Rattle.trace_replay.specs.declared.turn.Turn.{Turn}

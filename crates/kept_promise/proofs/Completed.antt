@@ -3,14 +3,14 @@ use Rattle.std.proofs.Common.{◌≡◌, ℕ, zero, suc, ◌<◌, ◌≤◌, Lis
 use Rattle.client_state.specs.State as client
 use Rattle.trace_ends.specs.Queue.{is_none}
 use Rattle.trace_replay.specs.Complete.{IsAlone, IsLeftAlone}
-use Rattle.kept_promise.proofs.Common.{slice_get, All, Unread, Came, split, fed, stream, Fed, stream_comes, Refusal, message_spell, Pending, FileChange, Stage, Task, Op, Seat, Session, numbered, World, Wire, is_still_at, Moment, book_of, Queue, Mix, queue_of, asks_in, tolds_in, up_message, down_message}
+use Rattle.kept_promise.proofs.Common.{slice_get, All, Unread, Came, split, fed, stream, Fed, stream_comes, Refusal, message_spell, Pending, FileChange, Stage, Task, Op, Seat, Session, numbered, World, is_still_at, Moment, book_of, Queue, Mix, queue_of, asks_in, tolds_in, up_message, down_message, is_raw}
 use Rattle.kept_promise.proofs.Lists.{some_is, nothing_there, both_true}
 use Rattle.kept_promise.proofs.Keys.{times, own, on_way, ask_key, told_key, change_key, pending_key, there_by}
 use Rattle.kept_promise.proofs.Messages.{Job, job, job_of}
 use Rattle.kept_promise.proofs.Fits.{FitLaws}
-use Rattle.kept_promise.proofs.Turns.{also_numbered}
+use Rattle.kept_promise.proofs.Turns.{also_numbered, owned_uncut}
 use Rattle.kept_promise.proofs.Facts.{IsBalanced, IsTalk, IsKept}
-use Rattle.kept_promise.proofs.Leading.{CarryAll}
+use Rattle.kept_promise.proofs.Leading.{CarryAll, IsCarried}
 use Rattle.kept_promise.proofs.Rounds.{IsRested, AreRested, is_empty}
 use Rattle.kept_promise.proofs.Doing.{without_end}
 use Rattle.kept_promise.proofs.CutEnds.{job_is}
@@ -37,20 +37,16 @@ none_mapped f (x ∷ xs) e = absurd cc
 
 -- ---- a session that is left alone
 
-numbered_at : {A : Type 0} (P : A → Type 0) (xs : List A) (n : ℕ) (x : A) → ((k : ℕ) (y : A) → slice_get xs k ≡ Some y → P y) → numbered xs n ≡ Some x → P x
-numbered_at P xs zero x h e = nothing_there x e
-numbered_at P xs (suc k) x h e = h k x e
-
 -- nothing is on its way there
-nothing_waits : FitLaws → (w : World) (all : List Moment) (ms : List Mix) (n : ℕ) (x : Session) (m : Mix) → IsKept (book_of w all) w.core (map queue_of ms) → CarryAll w.wires ms → AreMixes w.core.sessions ms → AreRested w.wires → numbered w.core.sessions n ≡ Some x → numbered ms n ≡ Some m → IsAlone w n
+nothing_waits : FitLaws → (w : World) (all : List Moment) (ms : List Mix) (n : ℕ) (x : Session) (m : Mix) → IsKept (book_of w all) w.core (map queue_of ms) → CarryAll w.core.sessions w.wires ms → AreMixes w.core.sessions ms → AreRested w → numbered w.core.sessions n ≡ Some x → is_raw x ≡ false → numbered ms n ≡ Some m → IsAlone w n
     → on_way n w.core.server.waiting (queue_of m) ≡ []
-nothing_waits fits w all ms n x m kept carry fit rested at is alone =
+nothing_waits fits w all ms n x m kept carry fit rested at owned is alone =
     let v = also_numbered ms w.wires n m carry.0 is in
-    let c = carry.1 n v.0 m v.1 is in
+    let c = subst (λ (b : Bool). IsCarried b v.0 m) owned (carry.1 n x v.0 m at v.1 is) in
     let mix = fit n x m at is in
-    let r = numbered_at (λ (z : Wire). IsRested z.server_end × IsRested z.client_end) w.wires n v.0 rested v.1 in
+    let r = (rested.each n v.0 v.1).0 in
     let still = both_true (is_none v.0.up) (is_none v.0.down) (sym (ap is_still_at v.1) ∙ alone.still) in
-    let s = kept.sessions n x (queue_of m) at (there_plain ms n m is) in
+    let s = kept.sessions n x (queue_of m) at (there_plain ms n m is) owned in
     let ups : m.ups ≡ [] = none_mapped up_message m.ups (none_mapped message_spell (map up_message m.ups) (nothing_comes v.0.server_end (map message_spell (map up_message m.ups)) (ups_short fits m.ups s.ups_fit mix.ups) c.up_sound r.0 (ap (λ l. v.0.server_end.rest ++ l) (sym (is_empty v.0.up still.0)) ∙ c.up))) in
     let downs : m.downs ≡ [] = none_mapped down_message m.downs (none_mapped message_spell (map down_message m.downs) (nothing_comes v.0.client_end (map message_spell (map down_message m.downs)) (downs_short w.core.lbfs m.downs s.downs_fit mix.downs) c.down_sound r.1 (ap (λ l. v.0.client_end.rest ++ l) (sym (is_empty v.0.down still.1)) ∙ c.down))) in
     let changes : own n w.core.server.waiting ≡ [] = own_none n w.core.server.waiting alone.waiting in
@@ -77,7 +73,7 @@ stage_of (Some p) None j t e f = nothing_there t f
 stage_of None u j t e f = nothing_there j e
 
 -- a client with an operation under way has a session that is not left alone
-not_alone : FitLaws → (w : World) (all : List Moment) (ms : List Mix) (c : ℕ) (seat : Seat) (j : Job) (t : Task) → IsKept (book_of w all) w.core (map queue_of ms) → CarryAll w.wires ms → AreMixes w.core.sessions ms → AreRested w.wires → numbered w.core.seats c ≡ Some seat → job seat ≡ Some j → seat.client.task ≡ Some t → IsLeftAlone w c → ⊥
+not_alone : FitLaws → (w : World) (all : List Moment) (ms : List Mix) (c : ℕ) (seat : Seat) (j : Job) (t : Task) → IsKept (book_of w all) w.core (map queue_of ms) → CarryAll w.core.sessions w.wires ms → AreMixes w.core.sessions ms → AreRested w → numbered w.core.seats c ≡ Some seat → job seat ≡ Some j → seat.client.task ≡ Some t → IsLeftAlone w c → ⊥
 not_alone fits w all ms c seat j t kept carry fit rested here is task alone = by seat.client.linked refl
   where
     by : (b : Bool) → seat.client.linked ≡ b → ⊥
@@ -88,7 +84,8 @@ not_alone fits w all ms c seat j t kept carry fit rested here is task alone = by
         let n = l.0 in
         let x = l.1 in
         let m = also_numbered w.core.sessions ms n x (sym (map_count queue_of ms) ∙ kept.made.1) l.3 in
-        let h = kept.sessions n x (queue_of m.0) l.3 (there_plain ms n m.0 m.1) in
+        let owned = owned_uncut kept n x l.3 l.4 in
+        let h = kept.sessions n x (queue_of m.0) l.3 (there_plain ms n m.0 m.1) owned in
         let own = s.session n l.2 in
         let owner : x.owner ≡ c = ap (λ (z : Session). z.owner) (some_is x own.0 (sym l.3 ∙ own.1)) ∙ own.2 in
         let same : h.seat ≡ seat = some_is h.seat seat (sym h.owner ∙ ap (numbered w.core.seats) owner ∙ here) in
@@ -97,9 +94,9 @@ not_alone fits w all ms c seat j t kept carry fit rested here is task alone = by
         let balanced : IsBalanced n w.core.server.waiting (queue_of m.0) false seat.client.next_xid (client.pending seat.client.task ++ seat.client.forgotten) = subst (λ (z : Bool). IsBalanced n w.core.server.waiting (queue_of m.0) z seat.client.next_xid (client.calls_of seat.client)) (lone.stands x l.3) talk.balanced in
         let busy : 0 < length (client.pending_in t.stage) = subst (λ (z : Stage). 0 < length (client.pending_in z)) (stage_of seat.place seat.client.task j t is task) (talk.busy j is) in
         let some : 0 < length (client.pending seat.client.task) = subst (λ (z : Option Task). 0 < length (client.pending z)) (sym task) busy in
-        nobody_waits w.core.server.waiting n (queue_of m.0) seat.client.next_xid (client.pending seat.client.task) seat.client.forgotten balanced (nothing_waits fits w all ms n x m.0 kept carry fit rested l.3 m.1 lone) some
+        nobody_waits w.core.server.waiting n (queue_of m.0) seat.client.next_xid (client.pending seat.client.task) seat.client.forgotten balanced (nothing_waits fits w all ms n x m.0 kept carry fit rested l.3 owned m.1 lone) some
 
-pub completes : FitLaws → (w : World) (all : List Moment) (ms : List Mix) → IsKept (book_of w all) w.core (map queue_of ms) → CarryAll w.wires ms → AreMixes w.core.sessions ms → AreRested w.wires → (k : ℕ) (o : Op) → slice_get w.core.ops k ≡ Some o → IsLeftAlone w o.client → IsSome o.end
+pub completes : FitLaws → (w : World) (all : List Moment) (ms : List Mix) → IsKept (book_of w all) w.core (map queue_of ms) → CarryAll w.core.sessions w.wires ms → AreMixes w.core.sessions ms → AreRested w → (k : ℕ) (o : Op) → slice_get w.core.ops k ≡ Some o → IsLeftAlone w o.client → IsSome o.end
 completes fits w all ms kept carry fit rested k o at alone = by o.end refl
   where
     by : (e : Option ℕ) → o.end ≡ e → IsSome o.end

@@ -14,7 +14,7 @@ use Rattle.kept_promise.proofs.Messages.{Job, job, job_of, IsCommit, CommitOf, I
 use Rattle.kept_promise.proofs.Rights.{IsRight, is_remote, Caused}
 use Rattle.kept_promise.proofs.History.{Goes, Still, Becomes, onward, grows_same, goes_same, still_same, goes_becomes, still_becomes}
 use Rattle.kept_promise.proofs.Later.{speak_later, serves_later, commit_later, waits_later, pieces_later, parts_later, cached_later, same_view, Spares}
-use Rattle.kept_promise.proofs.Turns.{Around, around_with, also_numbered, turned_core, kept_turn}
+use Rattle.kept_promise.proofs.Turns.{Around, around_with, also_numbered, turned_core, kept_turn, has_owner}
 use Rattle.kept_promise.proofs.Rests.{kept_rest}
 use Rattle.kept_promise.proofs.Facts.{IsSeat, IsMatched, IsKept}
 use Rattle.kept_promise.proofs.Leading.{IsNoted, Leads, ups_put_in, ups_put, downs_lost, KeptCuts}
@@ -51,7 +51,7 @@ cut_kept : (book more : Book) (k : Core) (qs : List Queue) (c n : ℕ) (x : Sess
     → Around qs after n (left_queue q)
     → IsKept more (turned_core k more k.server (with_numbered k.seats c (cut_seat seat)) (with_numbered k.sessions n (record x { cut = true }))) after
 cut_kept book more k qs c n x q seat ended after kept here at is owner newest goes still opening journal ends running queues =
-    let h = kept.sessions n x q at is in
+    let h = kept.sessions n x q at is (has_owner k.seats x seat (ap (numbered k.seats) owner ∙ here)) in
     let g = goes.grows in
     let y : Session = record x { cut = true } in
     let d = cut_seat seat in
@@ -190,7 +190,7 @@ idle_kept book k qs kept =
     refl (λ m. same_view m k.server) kept.home kept.running kept.journal kept.shelf kept)
 
 pub leads_idle : (book : Book) (k : Core) (qs : List Queue) → IsKept book k qs → Leads book qs (idles k)
-leads_idle book k qs kept = record { sends = record { replies = []; replies_fit = tt; asks = []; up_is = refl; recalls = []; recalls_fit = tt; tolds = []; down_is = refl }; more = onward book 1 book.ops; moments = refl; opening = refl; kept = idle_kept book k qs kept }
+leads_idle book k qs kept = record { sends = record { replies = []; replies_fit = tt; asks = []; up_is = refl; strays = []; strays_cut = tt; recalls = []; recalls_fit = tt; tolds = []; down_is = refl }; more = onward book 1 book.ops; moments = refl; opening = refl; kept = idle_kept book k qs kept }
 
 -- what a cut leaves, by what its client had under way
 abbrev cut_after : Core → (c : ℕ) → Seat → (place : Option ℕ) → ClientStep → (session : Option ℕ) → CoreStep
@@ -247,7 +247,7 @@ cut_free book k qs c n x q seat kept here at is owner newest free =
     let now = cut_kept book more k qs c n x q seat None after kept here at is owner newest (goes_same book 1 kept.sound) (still_same book 1 kept.sound) refl refl (λ p o f. nothing_there p f) (λ p o f run. runs seated p o f run) (queue_cut sessions qs n y q is around.there) in
     let core = cut_core book more k k.server (with_numbered k.seats c (cut_seat seat)) sessions k.ops (ap (λ s. s + 1) kept.steps) kept.ops kept.entries in
     record {
-      sends = record { replies = []; replies_fit = tt; asks = []; up_is = refl; recalls = []; recalls_fit = tt; tolds = []; down_is = refl };
+      sends = record { replies = []; replies_fit = tt; asks = []; up_is = refl; strays = []; strays_cut = tt; recalls = []; recalls_fit = tt; tolds = []; down_is = refl };
       more = more;
       moments = refl;
       opening = refl;
@@ -285,7 +285,7 @@ cut_busy book k qs c n p x q seat j kept noted here at is owner newest busy plac
     let ops_is : ops_with k.ops (Some p) s taken (k.steps + 1) lost_step ≡ slice_set book.ops p r = ap (λ (os : List Op). ops_with os (Some p) s taken (k.steps + 1) lost_step) (sym kept.ops) ∙ ap (λ (z : Option Op). ops_after book.ops p z s taken (k.steps + 1) lost_step) there in
     let core = cut_core book more k k.server (with_numbered k.seats c (cut_seat seat)) sessions (ops_with k.ops (Some p) s taken (k.steps + 1) lost_step) (ap (λ z. z + 1) kept.steps) (sym ops_is) kept.entries in
     record {
-      sends = record { replies = []; replies_fit = tt; asks = []; up_is = refl; recalls = []; recalls_fit = tt; tolds = []; down_is = refl };
+      sends = record { replies = []; replies_fit = tt; asks = []; up_is = refl; strays = []; strays_cut = tt; recalls = []; recalls_fit = tt; tolds = []; down_is = refl };
       more = more;
       moments = refl;
       opening = refl;

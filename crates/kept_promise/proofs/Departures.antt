@@ -51,7 +51,7 @@ use Rattle.kept_promise.proofs.GoingCalls.{IsName, no_name, name_is, RemoveComes
 use Rattle.kept_promise.proofs.Rooted.{IsRooted, gone_rooted, rename_rooted}
 use Rattle.kept_promise.proofs.MakingRooted.{some_letter}
 use Rattle.kept_promise.proofs.TreeBounds.{IsSpared}
-use Rattle.kept_promise.proofs.Messages.{AsksFor}
+use Rattle.kept_promise.proofs.Messages.{AsksFor, walk_for}
 
 -- ---- on arrival
 
@@ -189,6 +189,11 @@ settles_at t held dir left g (asked.Rename r) given h asks two none =
   where
     walk_is : (w : Walk) → AsksFor w (asked.Rename r) → w ≡ record { dir = r.to.dir; left = []; goal = goal.RenameTo r.from.dir r.from.name r.to.name }
     walk_is w h = ap (λ (l : List (List ℕ)). record w { left = l }) h.0 ∙ ap (λ (g : Goal). record { dir = w.dir; left = []; goal = g }) h.1 ∙ ap (λ (d : ℕ). record { dir = d; left = []; goal = goal.RenameTo r.from.dir r.from.name r.to.name }) h.2
+
+-- what is taken out is asked for by a walk of its own
+pub asks_itself : (a : Asked) → AsksFor (walk_for a) a
+asks_itself (asked.Remove r) = (refl, refl, refl)
+asks_itself (asked.Rename r) = (refl, refl, refl)
 
 pub settles_so : (t : Tree) (held : Reservation) (w : Walk) (a : Asked) → IsBounded t → IsWalkSmall w → AsksFor w a → AreTwo a → ((n : Node) → directory_of t.nodes (file_of a) ≡ Ok n → ⊥) → SettlesSo t held w a
 settles_so t held w a bounded small asks two none = settles_at t held w.dir w.left w.goal a (given t bounded) small.named.1 asks two none

@@ -5,13 +5,13 @@ use Rattle.client_state.specs.State as client
 use Rattle.client_state.specs.declared.step.Outcome.TheVariants as outcome
 use Rattle.register_model.specs.declared.op.Outcome.TheVariants as told
 use Rattle.register_model.specs.declared.op.Word.TheVariants as words
-use Rattle.kept_promise.proofs.Common.{slice_get, slice_set, not, ends, Ended, Outcome, Local, Op, Word, TakenCall, Core, Seat, Session, Loss.Nothing, CoreStep, numbered, with_numbered, session_of, commanded_sessions, begun, has_point, point_if, told_of, op_after, place_with, closing_with, Book, is_running, Ask, Told, Queue}
-use Rattle.kept_promise.proofs.Lists.{some_is, nothing_there, same_or_not, of_appended}
+use Rattle.kept_promise.proofs.Common.{slice_get, slice_set, not, ends, Ended, Outcome, Local, Op, Word, TakenCall, Core, Seat, Session, Loss.Nothing, CoreStep, numbered, with_numbered, session_of, commanded_sessions, begun, has_point, point_if, told_of, op_after, place_with, closing_with, Book, is_running, Ask, Told, Queue, is_raw}
+use Rattle.kept_promise.proofs.Lists.{some_is, nothing_there, same_or_not, of_appended, true_and_false}
 use Rattle.kept_promise.proofs.Messages.{Job, job, AllTolds, IsAnswer}
 use Rattle.kept_promise.proofs.Rights.{Caused, IsRight, WasThere, DoneBy, is_remote}
 use Rattle.kept_promise.proofs.History.{onward, MakesNone, makes_none, goes_added, still_added, grows_added}
 use Rattle.kept_promise.proofs.Later.{same_view}
-use Rattle.kept_promise.proofs.Turns.{Around, around_with, turned_core}
+use Rattle.kept_promise.proofs.Turns.{Around, around_with, turned_core, has_owner, with_same, came_later}
 use Rattle.kept_promise.proofs.Rests.{kept_rest, with_opened, kept_opened}
 use Rattle.kept_promise.proofs.Facts.{IsSession, IsKept}
 use Rattle.kept_promise.proofs.Leading.{Leads, ups_put_in, ups_put}
@@ -19,17 +19,6 @@ use Rattle.kept_promise.proofs.Takes.{server_still}
 use Rattle.kept_promise.proofs.Cuts.{cut_core}
 use Rattle.kept_promise.proofs.OrderSteps.{ups_same}
 use Rattle.kept_promise.proofs.Growth.{there_later}
-
--- ---- a list with the same at a number
-
-set_same : {A : Type 0} (xs : List A) (i : ℕ) (x : A) → slice_get xs i ≡ Some x → slice_set xs i x ≡ xs
-set_same [] i x e = refl
-set_same (z ∷ xs) zero x e = ap (λ y. y ∷ xs) (sym (some_is z x e))
-set_same (z ∷ xs) (suc i) x e = ap (λ l. z ∷ l) (set_same xs i x e)
-
-pub with_same : {A : Type 0} (xs : List A) (n : ℕ) (x : A) → numbered xs n ≡ Some x → with_numbered xs n x ≡ xs
-with_same xs zero x e = nothing_there x e
-with_same xs (suc i) x e = set_same xs i x e
 
 -- ---- the calls that the server took are forgotten where nothing is under way
 
@@ -72,15 +61,21 @@ kept_cleared book k qs n x seat h at here free = record {
   journal = h.journal;
   entries = h.entries;
   sound = h.sound;
+  raws = h.raws;
+  came = came_later k.came (length k.sessions) _ k.steps k.steps around.count (omega arith) h.came;
   server = h.server;
   made = (around.count ∙ h.made.0, h.made.1 ∙ sym around.count);
-  sessions = λ m z q f is. elim (same_or_not m n) [
-    | inr apart ↦ h.sessions m z q (sym (around.others m apart) ∙ f) is
+  sessions = λ m z q f is own. elim (same_or_not m n) [
+    | inr apart ↦ h.sessions m z q (sym (around.others m apart) ∙ f) is own
     | inl e ↦
         let same : z ≡ cleared x = some_is z (cleared x) (sym f ∙ ap (numbered after) e ∙ around.there) in
-        let old = h.sessions n x q at (sym (ap (numbered qs) e) ∙ is) in
+        let old = h.sessions n x q at (sym (ap (numbered qs) e) ∙ is) (has_owner k.seats x seat here) in
         let new = session_cleared book k.seats k.server n x q old (ap job (some_is old.seat seat (sym old.owner ∙ here)) ∙ free) in
         subst (λ (i : ℕ). IsSession book k.seats k.server i z q) (sym e) (subst (λ (v : Session). IsSession book k.seats k.server n v q) (sym same) new)
+  ];
+  strangers = λ m z q f is raw. elim (same_or_not m n) [
+    | inr apart ↦ h.strangers m z q (sym (around.others m apart) ∙ f) is raw
+    | inl e ↦ absurd (true_and_false (is_raw z) raw (ap is_raw (some_is z (cleared x) (sym f ∙ ap (numbered after) e ∙ around.there)) ∙ has_owner k.seats x seat here))
   ];
   seats = λ i e f. let s = h.seats i e f in record {
     session = λ m g. let w = s.session m g in let v = moved m w.0 w.1 in (v.0, v.1, v.2 ∙ w.2);
@@ -234,8 +229,8 @@ not_running w o i e = absurd i
 own_pointless : (k : Core) (c : ℕ) (w : Word) (file : ℕ) (value : List ℕ) (s : client.State) (o : Outcome) → IsOwn w o → (own_op k c w file value s o).point ≡ None
 own_pointless k c w file value s o own = by (own_op k c w file value s o).point refl
   where
-    r : IsRight (record { lbfs = 0; opening = []; ops = []; steps = k.steps + 1; journal = []; entries = []; moments = [] }) (own_op k c w file value s o)
-    r = own_right (record { lbfs = 0; opening = []; ops = []; steps = k.steps + 1; journal = []; entries = []; moments = [] }) (k.steps + 1) c w file value s o own refl
+    r : IsRight (record { lbfs = 0; opening = []; ops = []; raws = []; steps = k.steps + 1; journal = []; entries = []; moments = [] }) (own_op k c w file value s o)
+    r = own_right (record { lbfs = 0; opening = []; ops = []; raws = []; steps = k.steps + 1; journal = []; entries = []; moments = [] }) (k.steps + 1) c w file value s o own refl
 
     by : (p : Option ℕ) → (own_op k c w file value s o).point ≡ p → p ≡ None
     by None e = refl
@@ -297,7 +292,7 @@ leads_first book k qs c seat session found w file value opened o first kept here
     let four = subst (λ (z : Core). IsKept more z qs) core three in
     let five = subst (λ (z : List Seat). IsKept more (record k { server = k.server; seats = z; sessions = commanded_sessions k.sessions session found None (length k.ops) w (ends o 0 0); steps = k.steps + 1; ops = k.ops ++ new ∷ []; entries = k.entries }) qs) (sym sat) four in
     record {
-      sends = record { replies = []; replies_fit = tt; asks = []; up_is = refl; recalls = []; recalls_fit = tt; tolds = []; down_is = refl };
+      sends = record { replies = []; replies_fit = tt; asks = []; up_is = refl; strays = []; strays_cut = tt; recalls = []; recalls_fit = tt; tolds = []; down_is = refl };
       more = more;
       moments = refl;
       opening = refl;
@@ -333,7 +328,7 @@ leads_busy book k qs c p seat session found w file value kept here busy is =
     let three = subst (λ (z : List Seat). IsKept more (record k { server = k.server; seats = z; sessions = k.sessions; steps = k.steps + 1; ops = k.ops ++ new ∷ []; entries = k.entries }) qs) (sym sat) two in
     let four = subst (λ (z : List Session). IsKept more (record k { server = k.server; seats = with_numbered k.seats c (record { client = seat.client; session = seat.session; place = Some p }); sessions = z; steps = k.steps + 1; ops = k.ops ++ new ∷ []; entries = k.entries }) qs) (sym stays) three in
     record {
-      sends = record { replies = []; replies_fit = tt; asks = []; up_is = refl; recalls = []; recalls_fit = tt; tolds = []; down_is = refl };
+      sends = record { replies = []; replies_fit = tt; asks = []; up_is = refl; strays = []; strays_cut = tt; recalls = []; recalls_fit = tt; tolds = []; down_is = refl };
       more = more;
       moments = refl;
       opening = refl;

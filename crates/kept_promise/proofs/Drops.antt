@@ -3,7 +3,7 @@ use Rattle.std.proofs.Common.{inl, inr, ◌≡◌, ℕ, zero, suc, ◌+◌, ◌<
 use Rattle.client_state.specs.State as client
 use Rattle.register_model.specs.declared.op.Outcome.TheVariants as told
 use Rattle.client_state.specs.declared.task.Stage.TheVariants as stage
-use Rattle.kept_promise.proofs.Common.{slice_get, slice_set, ◌==◌, ◌||◌, Pending, has_call, without_call, no_counts, nothing_done, store_pending, Stage, Op, Core, Seat, Session, numbered, ops_with, ops_after, acted, counted, Book, Told, Queue, Upload, UploadCall}
+use Rattle.kept_promise.proofs.Common.{slice_get, slice_set, ◌==◌, ◌||◌, Pending, has_call, without_call, no_counts, nothing_done, store_pending, Stage, Op, Core, Seat, Session, numbered, ops_with, ops_after, acted, counted, Book, Told, Queue, Upload, UploadCall, is_raw}
 use Rattle.kept_promise.proofs.Lists.{some_is, nothing_there, same_or_not, of_replaced, false_and_true, all_map}
 use Rattle.kept_promise.proofs.Keys.{times, there_by}
 use Rattle.kept_promise.proofs.Messages.{Job, job, AllTolds, IsAnswer, IsCommit}
@@ -89,20 +89,20 @@ nothing_under book k n x q t h uncut i there = ((λ j st m u is at under same. s
 -- ---- what is kept
 
 -- nothing that a client has under way is another
-kept_dropped : (book : Book) (ops : List Op) (k : Core) (qs : List Queue) (n : ℕ) (x : Session) (q : Queue) (t : Told) (ts : List Told) (seats : List Seat) (after : List Queue) → (kept : IsKept book k qs) → (at : numbered k.sessions n ≡ Some x) → (is : numbered qs n ≡ Some q) → q.downs ≡ t ∷ ts → x.cut ≡ false
-    → (i : ℕ) → slice_get (kept.sessions n x q at is).seat.client.forgotten i ≡ Some (told_pending t)
+kept_dropped : (book : Book) (ops : List Op) (k : Core) (qs : List Queue) (n : ℕ) (x : Session) (q : Queue) (t : Told) (ts : List Told) (seats : List Seat) (after : List Queue) → (kept : IsKept book k qs) → (at : numbered k.sessions n ≡ Some x) → (is : numbered qs n ≡ Some q) → (owned : is_raw x ≡ false) → q.downs ≡ t ∷ ts → x.cut ≡ false
+    → (i : ℕ) → slice_get (kept.sessions n x q at is owned).seat.client.forgotten i ≡ Some (told_pending t)
     → Goes book (onward book 1 ops) None None → Still book (onward book 1 ops)
-    → IsSeat (onward book 1 ops) k.sessions x.owner (record (kept.sessions n x q at is).seat { client = dropped (kept.sessions n x q at is).seat.client t.xid })
-    → ((others : List Seat) → Around k.seats others x.owner (record (kept.sessions n x q at is).seat { client = dropped (kept.sessions n x q at is).seat.client t.xid }) → (p : ℕ) (o : Op) → slice_get ops p ≡ Some o → o.outcome ≡ told.Running → (e : Seat) × (j : Job) × (numbered others o.client ≡ Some e) × (job e ≡ Some j) × (j.place ≡ p))
-    → Around k.seats seats x.owner (record (kept.sessions n x q at is).seat { client = dropped (kept.sessions n x q at is).seat.client t.xid }) → Around qs after n (put_up q x.hung [] ts)
+    → IsSeat (onward book 1 ops) k.sessions x.owner (record (kept.sessions n x q at is owned).seat { client = dropped (kept.sessions n x q at is owned).seat.client t.xid })
+    → ((others : List Seat) → Around k.seats others x.owner (record (kept.sessions n x q at is owned).seat { client = dropped (kept.sessions n x q at is owned).seat.client t.xid }) → (p : ℕ) (o : Op) → slice_get ops p ≡ Some o → o.outcome ≡ told.Running → (e : Seat) × (j : Job) × (numbered others o.client ≡ Some e) × (job e ≡ Some j) × (j.place ≡ p))
+    → Around k.seats seats x.owner (record (kept.sessions n x q at is owned).seat { client = dropped (kept.sessions n x q at is owned).seat.client t.xid }) → Around qs after n (put_up q x.hung [] ts)
     → IsKept (onward book 1 ops) (turned_core k (onward book 1 ops) k.server seats k.sessions) after
-kept_dropped book ops k qs n x q t ts seats after kept at is first uncut i there goes still seat running around queues =
-    let h = kept.sessions n x q at is in
+kept_dropped book ops k qs n x q t ts seats after kept at is owned first uncut i there goes still seat running around queues =
+    let h = kept.sessions n x q at is owned in
     let more = onward book 1 ops in
     let c = dropped h.seat.client t.xid in
     let talk = h.talk uncut in
     let spares : Spares x.closing None = λ p u v. nothing_there p v in
-    kept_heard book ops k qs n x q t ts c h.seat.place [] None None seats after kept at is first uncut around queues (record {
+    kept_heard book ops k qs n x q t ts c h.seat.place [] None None seats after kept at is owned first uncut around queues (record {
       goes = goes;
       still = still;
       made_here = λ p f. nothing_there p f;
@@ -158,22 +158,22 @@ elsewhere book k qs i seat d others kept was same round p o at run =
     ]
 
 -- with nothing under way
-drops_free : (book : Book) (k : Core) (qs : List Queue) (n : ℕ) (x : Session) (q : Queue) (t : Told) (ts : List Told) (i : ℕ) → (kept : IsKept book k qs) → (at : numbered k.sessions n ≡ Some x) → (is : numbered qs n ≡ Some q) → q.downs ≡ t ∷ ts → x.cut ≡ false
-    → slice_get (kept.sessions n x q at is).seat.client.forgotten i ≡ Some (told_pending t) → (kept.sessions n x q at is).seat.place ≡ None → Leads book (rest_down qs n q ts) (acted k x.owner (kept.sessions n x q at is).seat (dropped (kept.sessions n x q at is).seat.client t.xid) nothing_done)
-drops_free book k qs n x q t ts i kept at is first uncut there free =
-    let h = kept.sessions n x q at is in
+drops_free : (book : Book) (k : Core) (qs : List Queue) (n : ℕ) (x : Session) (q : Queue) (t : Told) (ts : List Told) (i : ℕ) → (kept : IsKept book k qs) → (at : numbered k.sessions n ≡ Some x) → (is : numbered qs n ≡ Some q) → (owned : is_raw x ≡ false) → q.downs ≡ t ∷ ts → x.cut ≡ false
+    → slice_get (kept.sessions n x q at is owned).seat.client.forgotten i ≡ Some (told_pending t) → (kept.sessions n x q at is owned).seat.place ≡ None → Leads book (rest_down qs n q ts) (acted k x.owner (kept.sessions n x q at is owned).seat (dropped (kept.sessions n x q at is owned).seat.client t.xid) nothing_done)
+drops_free book k qs n x q t ts i kept at is owned first uncut there free =
+    let h = kept.sessions n x q at is owned in
     let c = dropped h.seat.client t.xid in
     let goes = goes_same book 1 kept.sound in
     let d : Seat = record h.seat { client = c } in
     let seat = seat_later book (onward book 1 book.ops) None None k.sessions k.sessions x.owner h.seat goes.grows (λ m z f. (z, f, refl, λ e. refl)) (λ p o f. nothing_there p f) (kept.seats x.owner h.seat h.owner) in
     leads_acted book k qs n x q ts h.seat c nothing_done h.seat.place book.ops [] kept at is h.owner (h.here uncut).0 refl (ap (λ (p : Option ℕ). ops_with book.ops p c x.taken (book.steps + 1) nothing_done) free) refl
-    (λ seats after around queues. kept_dropped book book.ops k qs n x q t ts seats after kept at is first uncut i there goes (still_same book 1 kept.sound) (seat_dropped (onward book 1 book.ops) k.sessions x.owner h.seat t.xid (h.here uncut).1 seat) (λ others round. elsewhere book k qs x.owner h.seat d others kept h.owner refl round) around queues)
+    (λ seats after around queues. kept_dropped book book.ops k qs n x q t ts seats after kept at is owned first uncut i there goes (still_same book 1 kept.sound) (seat_dropped (onward book 1 book.ops) k.sessions x.owner h.seat t.xid (h.here uncut).1 seat) (λ others round. elsewhere book k qs x.owner h.seat d others kept h.owner refl round) around queues)
 
 -- with an operation under way, which goes on
-drops_busy : (book : Book) (k : Core) (qs : List Queue) (n : ℕ) (x : Session) (q : Queue) (t : Told) (ts : List Told) (i : ℕ) (j : Job) → (kept : IsKept book k qs) → (at : numbered k.sessions n ≡ Some x) → (is : numbered qs n ≡ Some q) → q.downs ≡ t ∷ ts → x.cut ≡ false
-    → slice_get (kept.sessions n x q at is).seat.client.forgotten i ≡ Some (told_pending t) → job (kept.sessions n x q at is).seat ≡ Some j → Leads book (rest_down qs n q ts) (acted k x.owner (kept.sessions n x q at is).seat (dropped (kept.sessions n x q at is).seat.client t.xid) nothing_done)
-drops_busy book k qs n x q t ts i j kept at is first uncut there job_is =
-    let h = kept.sessions n x q at is in
+drops_busy : (book : Book) (k : Core) (qs : List Queue) (n : ℕ) (x : Session) (q : Queue) (t : Told) (ts : List Told) (i : ℕ) (j : Job) → (kept : IsKept book k qs) → (at : numbered k.sessions n ≡ Some x) → (is : numbered qs n ≡ Some q) → (owned : is_raw x ≡ false) → q.downs ≡ t ∷ ts → x.cut ≡ false
+    → slice_get (kept.sessions n x q at is owned).seat.client.forgotten i ≡ Some (told_pending t) → job (kept.sessions n x q at is owned).seat ≡ Some j → Leads book (rest_down qs n q ts) (acted k x.owner (kept.sessions n x q at is owned).seat (dropped (kept.sessions n x q at is owned).seat.client t.xid) nothing_done)
+drops_busy book k qs n x q t ts i j kept at is owned first uncut there job_is =
+    let h = kept.sessions n x q at is owned in
     let c = dropped h.seat.client t.xid in
     let d : Seat = record h.seat { client = c } in
     let of = job_op book k qs x h.seat j kept h.owner job_is in
@@ -185,18 +185,18 @@ drops_busy book k qs n x q t ts i j kept at is first uncut there job_is =
     let seat = seat_later book more None None k.sessions k.sessions x.owner h.seat goes.grows (λ m z f. (z, f, refl, λ e. refl)) (λ p o f. nothing_there p f) (kept.seats x.owner h.seat h.owner) in
     let ops_is = ap (λ (p : Option ℕ). ops_with book.ops p c x.taken (book.steps + 1) nothing_done) (place_of h.seat j job_is) ∙ ap (λ (o : Option Op). ops_after book.ops j.place o c x.taken (book.steps + 1) nothing_done) of.there in
     leads_acted book k qs n x q ts h.seat c nothing_done h.seat.place ops [] kept at is h.owner (h.here uncut).0 refl ops_is refl
-    (λ seats after around queues. kept_dropped book ops k qs n x q t ts seats after kept at is first uncut i there goes (still_becomes book 1 None None j.place of.op r of.there (becomes_counting book x.owner j tr of kept.sound) kept.sound) (seat_dropped more k.sessions x.owner h.seat t.xid (h.here uncut).1 seat)
+    (λ seats after around queues. kept_dropped book ops k qs n x q t ts seats after kept at is owned first uncut i there goes (still_becomes book 1 None None j.place of.op r of.there (becomes_counting book x.owner j tr of kept.sound) kept.sound) (seat_dropped more k.sessions x.owner h.seat t.xid (h.here uncut).1 seat)
     (λ others round p o f run. elim (of_replaced book.ops j.place r p o f) [
       | inl here ↦ (d, j, ap (λ (z : Op). numbered others z.client) here.1 ∙ ap (numbered others) of.client ∙ round.there, job_is, sym here.0)
       | inr was ↦ elsewhere book k qs x.owner h.seat d others kept h.owner refl round p o was.1 run
     ]) around queues)
 
-pub leads_drops : (book : Book) (k : Core) (qs : List Queue) (n : ℕ) (x : Session) (q : Queue) (t : Told) (ts : List Told) → (kept : IsKept book k qs) → (at : numbered k.sessions n ≡ Some x) → (is : numbered qs n ≡ Some q) → q.downs ≡ t ∷ ts → x.cut ≡ false → has_call (client.pending (kept.sessions n x q at is).seat.client.task) t.xid ≡ false
-    → Leads book (rest_down qs n q ts) (acted k x.owner (kept.sessions n x q at is).seat (dropped (kept.sessions n x q at is).seat.client t.xid) nothing_done)
-leads_drops book k qs n x q t ts kept at is first uncut none =
-    let h = kept.sessions n x q at is in
+pub leads_drops : (book : Book) (k : Core) (qs : List Queue) (n : ℕ) (x : Session) (q : Queue) (t : Told) (ts : List Told) → (kept : IsKept book k qs) → (at : numbered k.sessions n ≡ Some x) → (is : numbered qs n ≡ Some q) → (owned : is_raw x ≡ false) → q.downs ≡ t ∷ ts → x.cut ≡ false → has_call (client.pending (kept.sessions n x q at is owned).seat.client.task) t.xid ≡ false
+    → Leads book (rest_down qs n q ts) (acted k x.owner (kept.sessions n x q at is owned).seat (dropped (kept.sessions n x q at is owned).seat.client t.xid) nothing_done)
+leads_drops book k qs n x q t ts kept at is owned first uncut none =
+    let h = kept.sessions n x q at is owned in
     let there = forgotten_there book k qs n x q t ts h first uncut none in
     elim (kept.seats x.owner h.seat h.owner).matched [
-      | inl free ↦ drops_free book k qs n x q t ts there.0 kept at is first uncut there.1 free.0
-      | inr busy ↦ drops_busy book k qs n x q t ts there.0 busy.0 kept at is first uncut there.1 busy.1
+      | inl free ↦ drops_free book k qs n x q t ts there.0 kept at is owned first uncut there.1 free.0
+      | inr busy ↦ drops_busy book k qs n x q t ts there.0 busy.0 kept at is owned first uncut there.1 busy.1
     ]

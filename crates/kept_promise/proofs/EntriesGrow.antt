@@ -20,10 +20,10 @@ use Rattle.server_core.specs.Step.{asks, asks_tree}
 use Rattle.server_core.specs.Steps.{sends}
 use Rattle.server_core.specs.declared.change.Wanted.TheVariants as wanted
 use Rattle.server_core.specs.declared.event.ServerStep.{ServerStep}
-use Rattle.trace_replay.specs.Entries.{MayEnter, TakesEntering, GrowsBy, JournalGrows}
+use Rattle.trace_replay.specs.Entries.{MayEnter, TakesEntering, IsOwnCall, GrowsBy, GrowsRaw, JournalGrows}
 use Rattle.trace_replay.specs.NameChanges.{IsStepOf}
 use Rattle.trace_replay.specs.OwnCalls.{ComesTo}
-use Rattle.kept_promise.proofs.Common.{slice_get, nat_lt, if◌then◌else◌, Contains, Contains-append_left, Contains-append_right, Contains-push, Contains-push_cases, Failed, Status, Body, Message, WireFault, numbered, parse_of, Temp, size_most, temp_at, room_fault, piece_fault, cond_fault, assembled, without_temp, File, Node, file, directory, node_of, called, got_if, at, stands, makes, makes_unless, writes_unless, names_unless, names_bytes, takes_commit, takes_commit_on, commits_whole, has_waiting, is_full, makes_change, Wanted, FileChange, Entry, Op, Opening, Core, Session, Event, Event.Serves, Event.Settles, CoreStep, server_waiting, server_waits, happens, Moment, step_of, client_of, is_in, Book, Queue, ask_message, change_of}
+use Rattle.kept_promise.proofs.Common.{slice_get, nat_lt, if◌then◌else◌, Contains, Contains-append_left, Contains-append_right, Contains-push, Contains-push_cases, Failed, Status, Body, Message, WireFault, numbered, parse_of, Temp, size_most, temp_at, room_fault, piece_fault, cond_fault, assembled, without_temp, File, Node, file, directory, node_of, called, got_if, at, stands, makes, makes_unless, writes_unless, names_unless, names_bytes, takes_commit, takes_commit_on, commits_whole, has_waiting, is_full, makes_change, Wanted, FileChange, Entry, Op, Opening, Core, Session, Event, Event.Serves, Event.Settles, CoreStep, server_waiting, server_waits, happens, Moment, step_of, client_of, is_in, Book, Queue, ask_message, change_of, is_raw}
 use Rattle.kept_promise.proofs.Hangs.{left_there}
 use Rattle.kept_promise.proofs.TakenOut.{ready_waits}
 use Rattle.server_core.specs.Recalling.{comes, term_at}
@@ -33,8 +33,8 @@ use Rattle.kept_promise.proofs.Statements.{CallFits}
 use Rattle.kept_promise.proofs.Fits.{FitLaws}
 use Rattle.kept_promise.proofs.Serves.{parsed}
 use Rattle.kept_promise.proofs.Facts.{IsKept}
-use Rattle.kept_promise.proofs.Turns.{also_numbered}
-use Rattle.kept_promise.proofs.RunsCarried.{book_at, moment, FindsAsk, Step, Carried}
+use Rattle.kept_promise.proofs.Turns.{also_numbered, owned_up, raw_or_owned}
+use Rattle.kept_promise.proofs.RunsCarried.{book_at, moment, FindsAsk, Step, Carried, Finds}
 use Rattle.kept_promise.proofs.CallsAlike.{call_read}
 use Rattle.kept_promise.proofs.ServesFiles.{count_is}
 use Rattle.kept_promise.proofs.SentUp.{WasCalled, UpsSent, called_after, call_asked, asked_only}
@@ -42,132 +42,8 @@ use Rattle.kept_promise.proofs.OpsAfter.{ops_after_event}
 use Rattle.kept_promise.proofs.Logs.{IsSilent}
 use Rattle.kept_promise.proofs.Hangs.{left_there}
 use Rattle.kept_promise.proofs.Happens.{what_happens}
-
--- ---- entries
-
-entered_session : (n : ℕ) (o : Option TreeEntry) (i : ℕ) (e : Entry) → slice_get (entered_by n o) i ≡ Some e → e.session ≡ n
-entered_session n None i e at = nothing_there e at
-entered_session n (Some d) zero e at = ap (λ (z : Entry). z.session) (sym (some_is (entry_by n d) e at))
-entered_session n (Some d) (suc i) e at = nothing_there e at
-
-entries_session : (n : ℕ) (first second : Option TreeEntry) (i : ℕ) (e : Entry) → slice_get (entries_by n first second) i ≡ Some e → e.session ≡ n
-entries_session n None second i e at = entered_session n second i e at
-entries_session n (Some d) second zero e at = ap (λ (z : Entry). z.session) (sym (some_is (entry_by n d) e at))
-entries_session n (Some d) second (suc i) e at = entered_session n second i e at
-
--- ---- a step of the server
-
--- the journal has entries of a session more, as many as are told
-record Grown (n : ℕ) (s : server.State) (r : server.State × ServerStep) : Type 0 where
-  new : List Entry
-  journal_is : r.0.journal ≡ s.journal ++ new
-  count : r.1.entries ≡ length new
-  sessions : (i : ℕ) (e : Entry) → slice_get new i ≡ Some e → e.session ≡ n
-
--- none is told, and none is there
-abbrev Stays : server.State → server.State × ServerStep → Type 0
-Stays s r = (r.0.journal ≡ s.journal) × (r.1.entries ≡ 0)
-
--- what waits is as it was, or what this call asked for came to wait
-abbrev Comes : (n xid : ℕ) → server.State → server.State × ServerStep → Type 0
-Comes n xid s r = (r.0.waiting ≡ s.waiting) ⊎ ((c : FileChange) × (c.session ≡ n) × (c.xid ≡ xid) × (r.0.waiting ≡ s.waiting ++ c ∷ []))
-
--- of a call
-abbrev CallGrows : (n xid : ℕ) → Body → server.State → server.State × ServerStep → Type 0
-CallGrows n xid b s r = (Stays s r × (r.0.waiting ≡ s.waiting)) ⊎ (MayEnter b × Comes n xid s r × (Stays s r ⊎ Grown n s r))
-
-commits_grows : (s : server.State) (n xid size : ℕ) (t : Temp) (nd : Result Node Status) → (let r = takes_commit_on s n xid size t nd in Stays s r × Comes n xid s r)
-commits_grows s n xid size t (Err e) = ((refl, refl), inl refl)
-commits_grows s n xid size t (Ok directory) = ((refl, refl), inl refl)
-commits_grows s n xid size t (Ok (file f)) = by (nat_lt size_most size)
-  where
-    waits : (content : List ℕ) (a b : Bool) → (let r : server.State × ServerStep = if a then answers s n xid (lb.CommitTmpAnswer (Failed status.Jukebox tt)) else if b then answers s n xid (lb.CommitTmpAnswer (Failed status.NoSpc tt)) else comes s (change_of n xid f.id (wanted.Content content)) in Stays s r × Comes n xid s r)
-    waits content true b = ((refl, refl), inl refl)
-    waits content false true = ((refl, refl), inl refl)
-    waits content false false = ((refl, refl), inr (change_of n xid f.id (wanted.Content content), refl, refl, refl))
-
-    whole : (o : Option (List ℕ)) → (let r = commits_whole s n xid f.id o in Stays s r × Comes n xid s r)
-    whole None = ((refl, refl), inl refl)
-    whole (Some content) = waits content (has_waiting s.waiting n) (is_full s (length content))
-
-    by : (b : Bool) → (let r : server.State × ServerStep = if b then answers s n xid (lb.CommitTmpAnswer (Failed status.FBig tt)) else commits_whole s n xid f.id (assembled t size) in Stays s r × Comes n xid s r)
-    by true = ((refl, refl), inl refl)
-    by false = whole (assembled t size)
-
-lb_grows : (s : server.State) (n xid : ℕ) (m : Lb) → CallGrows n xid (body.Lb m) s (called s n xid (body.Lb m))
-lb_grows s n xid (lb.CondWrite a) = by (cond_fault a (temp_at s.temps n a.fd))
-  where
-    bytes : (t : Option Temp) (o : Option (List ℕ)) → CallGrows n xid (body.Lb (lb.CondWrite a)) s (names_bytes (looked_up s a) n xid a t o)
-    bytes (Some t) (Some b) = inl ((refl, refl), refl)
-    bytes (Some t) None = inl ((refl, refl), refl)
-    bytes None o = inl ((refl, refl), refl)
-
-    by : (o : Option Status) → CallGrows n xid (body.Lb (lb.CondWrite a)) s (names_unless s n xid a (temp_at s.temps n a.fd) o)
-    by (Some e) = inl ((refl, refl), refl)
-    by None = bytes (temp_at s.temps n a.fd) _
-lb_grows s n xid (lb.MkTmpFile a) = by (node_of s.tree a.handle)
-  where
-    room : (f : File) (o : Option Status) → CallGrows n xid (body.Lb (lb.MkTmpFile a)) s (makes_unless s n xid a.fd f.id o)
-    room f (Some e) = inl ((refl, refl), refl)
-    room f None = inl ((refl, refl), refl)
-
-    by : (nd : Result Node Status) → CallGrows n xid (body.Lb (lb.MkTmpFile a)) s (makes s n xid a.fd nd)
-    by (Err e) = inl ((refl, refl), refl)
-    by (Ok directory) = inl ((refl, refl), refl)
-    by (Ok (file f)) = room f (room_fault s.temps n a.fd)
-lb_grows s n xid (lb.TmpWrite a) = by (temp_at s.temps n a.fd) (piece_fault (temp_at s.temps n a.fd) a.offset (length a.bytes))
-  where
-    by : (t : Option Temp) (o : Option Status) → CallGrows n xid (body.Lb (lb.TmpWrite a)) s (writes_unless s n xid a t o)
-    by (Some t) None = inl ((refl, refl), refl)
-    by (Some t) (Some e) = inl ((refl, refl), refl)
-    by None o = inl ((refl, refl), refl)
-lb_grows s n xid (lb.CommitTmp a) = by (temp_at s.temps n a.fd)
-  where
-    by : (t : Option Temp) → CallGrows n xid (body.Lb (lb.CommitTmp a)) s (takes_commit s n xid a t)
-    by None = inl ((refl, refl), refl)
-    by (Some t) = (let h = commits_grows (record s { temps = without_temp s.temps n a.fd }) n xid a.size t (node_of s.tree a.handle) in inr (tt, h.1, inl h.0))
-lb_grows s n xid m = inl ((refl, refl), refl)
-
--- what a call on names comes to over the tree
-asks_grows : (s : server.State) (n xid : ℕ) (p : Tree × Option Outcome) → (let r = asks_tree s n xid p in Comes n xid s r × (Stays s r ⊎ Grown n s r))
-asks_grows s n xid p = by p.1
-  where
-    by : (o : Option Outcome) → (let r = asks (record s { tree = p.0 }) n xid o in Comes n xid s r × (Stays s r ⊎ Grown n s r))
-    by None = (inl refl, inl (refl, refl))
-    by (Some (Answered d)) = (inl refl, inr (record { new = entries_by n d.first d.second; journal_is = refl; count = count_is n d.first d.second; sessions = λ i e at. entries_session n d.first d.second i e at }))
-    by (Some (ToWait a)) = (inr (change_of n xid (Rattle.tree_calls.specs.Waiting.file_of a) (wanted.Asked a), refl, refl, refl), inl (refl, refl))
-
--- a call that changes nothing has no entry
-tells_none : (s : server.State) (n xid : ℕ) (b : Body) (o : Option Nfs) → CallGrows n xid b s (asks_tree s n xid (s.tree, told_outcome o))
-tells_none s n xid b None = inl ((refl, refl), refl)
-tells_none s n xid b (Some m) = inl ((append-nil s.journal, refl), refl)
-
-nfs_grows : (s : server.State) (n xid : ℕ) (m : Nfs) → CallGrows n xid (body.Nfs m) s (called s n xid (body.Nfs m))
-nfs_grows s n xid nfs.Null = inl ((refl, refl), refl)
-nfs_grows s n xid (nfs.Read r) = inl ((refl, refl), refl)
-nfs_grows s n xid (nfs.Create a) = (let h = asks_grows s n xid (calls s.tree (server.held s.waiting) (has_waiting s.waiting n) (nfs.Create a)) in inr (tt, h.0, h.1))
-nfs_grows s n xid (nfs.MkDir a) = (let h = asks_grows s n xid (calls s.tree (server.held s.waiting) (has_waiting s.waiting n) (nfs.MkDir a)) in inr (tt, h.0, h.1))
-nfs_grows s n xid (nfs.Remove a) = (let h = asks_grows s n xid (calls s.tree (server.held s.waiting) (has_waiting s.waiting n) (nfs.Remove a)) in inr (tt, h.0, h.1))
-nfs_grows s n xid (nfs.RmDir a) = (let h = asks_grows s n xid (calls s.tree (server.held s.waiting) (has_waiting s.waiting n) (nfs.RmDir a)) in inr (tt, h.0, h.1))
-nfs_grows s n xid (nfs.Rename a) = (let h = asks_grows s n xid (calls s.tree (server.held s.waiting) (has_waiting s.waiting n) (nfs.Rename a)) in inr (tt, h.0, h.1))
-nfs_grows s n xid m = tells_none s n xid (body.Nfs m) (told_by s.tree.nodes m)
-
-body_grows : (s : server.State) (n xid : ℕ) (b : Body) → CallGrows n xid b s (called s n xid b)
-body_grows s n xid (body.Lb m) = lb_grows s n xid m
-body_grows s n xid (body.Nfs m) = nfs_grows s n xid m
-body_grows s n xid (body.Back z) = inl ((refl, refl), refl)
-
-change_grows : (s : server.State) (c : FileChange) (w : Wanted) → Grown c.session s (makes_change s c w)
-change_grows s c (wanted.Content content) =
-    let p = Rattle.tree_calls.specs.Waiting.gives_content s.tree (server.held s.waiting) c.file content (term_at s c.file) in
-    record { new = entries_by c.session p.1.entry None; journal_is = refl; count = count_is c.session p.1.entry None; sessions = λ i e at. entries_session c.session p.1.entry None i e at }
-change_grows s c (wanted.Asked a) =
-    let p = Rattle.tree_calls.specs.Waiting.settles s.tree (server.held s.waiting) a in
-    record { new = entries_by c.session p.1.first p.1.second; journal_is = refl; count = count_is c.session p.1.first p.1.second; sessions = λ i e at. entries_session c.session p.1.first p.1.second i e at }
-
-change_waits : (s : server.State) (c : FileChange) (w : Wanted) → (makes_change s c w).0.waiting ≡ s.waiting
-change_waits s c (wanted.Content content) = refl
-change_waits s c (wanted.Asked a) = refl
+use Rattle.kept_promise.proofs.AnyCall.{Grown, Stays, Comes, CallGrows, body_grows, change_grows, change_waits}
+use Rattle.kept_promise.proofs.OwnersKept.{owned_before, served_on}
 
 -- ---- an event
 
@@ -266,11 +142,14 @@ event_grows k e = what_happens k e (Grows k e) (record {
   joins = λ c seat is. still k e _ refl refl refl;
   refuses = λ c seat is. still k e _ refl refl refl;
   does = λ c now d seat is. still k e _ refl refl refl;
-  takes = λ n now bytes x m is there read. subst (λ (w : Event). Grows k w (Rattle.trace_ends.specs.Core.server_got k n now x m)) (sym is) (taken_grows k n now bytes x m read);
+  takes = λ n now bytes x m is there unhung read. subst (λ (w : Event). Grows k w (Rattle.trace_ends.specs.Core.server_got k n now x m)) (sym is) (taken_grows k n now bytes x m read);
   hears = λ n now bytes owner seat is. still k e _ refl refl refl;
   settles = λ now is. subst (λ (w : Event). Grows k w (Rattle.trace_ends.specs.Core.settles k now)) (sym is) (settled_grows k now);
   cuts = λ c seat is. still k e _ refl refl refl;
-  hangs = λ n x is there. gone n x (stands k.server n);
+  hangs = λ n x is there unhung. gone n x (stands k.server n);
+  closes = λ n now bytes x is there unhung. gone n x (stands k.server n);
+  raw_joins = λ is. still k e _ refl refl refl;
+  raw_refuses = λ is. still k e _ refl refl refl;
 })
   where
     gone : (n : ℕ) (x : Session) (b : Bool) → (let r = Rattle.server_core.specs.Step.hangs_if k.server b n in Grows k e (record (Rattle.trace_ends.specs.Core.hangs_if k n x false) { core = record (Rattle.trace_ends.specs.Core.hangs_if k n x false).core { server = r.0 } }))
@@ -280,10 +159,14 @@ event_grows k e = what_happens k e (Grows k e) (record {
 -- ---- what is carried
 
 -- each change that waits came by a call that was taken, and so did the entries of each moment
+-- a session of this number is a client's
+abbrev pub IsOwned : Core → (n : ℕ) → Type 0
+IsOwned k n = (x : Session) × (numbered k.sessions n ≡ Some x) × (is_raw x ≡ false)
+
 pub record AllEntered (all past : List Moment) (opening : List Opening) (k : Core) (qs : List Queue) : Type 0 where
   pub called : UpsSent past k.steps qs
-  pub waiting : (i : ℕ) (c : FileChange) → slice_get k.server.waiting i ≡ Some c → TakesEntering past c.session c.xid
-  pub each : (m : Moment) → Contains past m → ((happens m.before m.event).core.server.journal ≡ m.before.server.journal) ⊎ GrowsBy (book_at opening k past) m
+  pub waiting : (i : ℕ) (c : FileChange) → slice_get k.server.waiting i ≡ Some c → IsOwned k c.session → TakesEntering past c.session c.xid
+  pub each : (m : Moment) → Contains past m → ((happens m.before m.event).core.server.journal ≡ m.before.server.journal) ⊎ (GrowsRaw (book_at opening k past) m ⊎ GrowsBy (book_at opening k past) m)
 
 abbrev pub entering_later : (past : List Moment) (m : Moment) (session xid : ℕ) → TakesEntering past session xid → TakesEntering (past ++ m ∷ []) session xid
 entering_later past m session xid t = record {
@@ -331,15 +214,15 @@ taken_sent fits all past opening k qs mid n now bytes xid b kept f sent read may
     call : ask_message f.1 ≡ message.Call xid b
     call =
         let x = also_numbered qs k.sessions n f.0 (sym kept.made.1) f.3 in
-        let fit = (subst (AllAsks (λ u. CallFits u.lbfs u.xid u.call)) f.4 (kept.sessions n x.0 f.0 x.1 f.3).ups_fit).0 in
+        let fit = (subst (AllAsks (λ u. CallFits u.lbfs u.xid u.call)) f.4 (kept.sessions n x.0 f.0 x.1 f.3 (owned_up kept n x.0 f.0 x.1 f.3 f.1 f.2 f.4)).ups_fit).0 in
         same_read (parse_of server_waiting bytes) (ask_message f.1) (message.Call xid b) (ap (parse_of server_waiting) f.5 ∙ parsed fits f.1 fit) read
 
 -- the call of what an event makes
-pub takes_for : FitLaws → (all past rest : List Moment) (opening : List Opening) (k : Core) (qs : List Queue) (e : Event) (mid after : List Queue) → Step all past rest opening k qs e mid after → AllEntered all past opening k qs → (n xid : ℕ) → ByEvent k e n xid
+pub takes_for : FitLaws → (all past rest : List Moment) (opening : List Opening) (k : Core) (qs : List Queue) (e : Event) (mid after : List Queue) → Step all past rest opening k qs e mid after → AllEntered all past opening k qs → (n xid : ℕ) → IsOwned k n → ByEvent k e n xid
     → (t : TakesEntering (past ++ moment k e ∷ []) n xid) × ComesTo (moment k e) n xid (step_of t.taken)
-takes_for fits all past rest opening k qs (Serves m at_ z) mid after s h n xid (inl (now, bytes, b, is, read, may)) =
+takes_for fits all past rest opening k qs (Serves m at_ z) mid after s h n xid owned (inl (now, bytes, b, is, read, may)) =
     subst (λ i. (t : TakesEntering (past ++ moment k (Serves m at_ z) ∷ []) i xid) × ComesTo (moment k (Serves m at_ z)) i xid (step_of t.taken)) (session_is m n at_ now z bytes is)
-    (let w = taken_sent fits all past opening k qs mid m at_ z xid b s.kept (asked_only fits k qs m at_ z mid s.finds xid b reads) h.called reads may in (w.0, inl (sym w.1)))
+    (let w = taken_sent fits all past opening k qs mid m at_ z xid b s.kept (asked_only fits k qs m at_ z mid s.finds (λ x at. ap is_raw (some_is x owned.0 (sym at ∙ ap (numbered k.sessions) (session_is m n at_ now z bytes is) ∙ owned.1)) ∙ owned.2) xid b reads) h.called reads may in (w.0, inl (sym w.1)))
   where
     session_is : (n m i j : ℕ) (a b : List ℕ) → Serves n i a ≡ Serves m j b → n ≡ m
     session_is n m i j a b e = cc
@@ -349,17 +232,17 @@ takes_for fits all past rest opening k qs (Serves m at_ z) mid after s h n xid (
 
     reads : parse_of server_waiting z ≡ Ok (message.Call xid b)
     reads = ap (parse_of server_waiting) (bytes_are m n at_ now z bytes is) ∙ read
-takes_for fits all past rest opening k qs (Settles at_) mid after s h n xid (inr (now, c, is, first, session, number)) =
+takes_for fits all past rest opening k qs (Settles at_) mid after s h n xid owned (inr (now, c, is, first, session, number)) =
     let z = ready_waits k.server now c first in
-    let t = entering_later past (moment k (Settles at_)) c.session c.xid (h.waiting z.0 c z.1) in
+    let t = entering_later past (moment k (Settles at_)) c.session c.xid (h.waiting z.0 c z.1 (owned.0, ap (numbered k.sessions) session ∙ owned.1, owned.2)) in
     subst (λ i. (t : TakesEntering (past ++ moment k (Settles at_) ∷ []) i xid) × ComesTo (moment k (Settles at_)) i xid (step_of t.taken)) session
     (subst (λ i. (t : TakesEntering (past ++ moment k (Settles at_) ∷ []) c.session i) × ComesTo (moment k (Settles at_)) c.session i (step_of t.taken)) number
     (t, inr (record { now = at_; event_is = refl; change = c; ready = ap (λ (m : ℕ). ready_by k.server m) (settled_at at_ now is) ∙ first; session_is = refl; xid_is = refl })))
-takes_for fits all past rest opening k qs e mid after s h n xid (inl (now, bytes, b, is, read, may)) = unserved e is (λ n now bytes z. absurd cc)
+takes_for fits all past rest opening k qs e mid after s h n xid owned (inl (now, bytes, b, is, read, may)) = unserved e is (λ n now bytes z. absurd cc)
   where
     unserved : {A : Type 0} (e : Event) {n now : ℕ} {bytes : List ℕ} → e ≡ Serves n now bytes → ((n now : ℕ) (bytes : List ℕ) → e ≡ Serves n now bytes → A) → A
     unserved e is other = other _ _ _ is
-takes_for fits all past rest opening k qs e mid after s h n xid (inr (now, c, is, first, session, number)) = unsettled e is (λ now z. absurd cc)
+takes_for fits all past rest opening k qs e mid after s h n xid owned (inr (now, c, is, first, session, number)) = unsettled e is (λ now z. absurd cc)
   where
     unsettled : {A : Type 0} (e : Event) {now : ℕ} → e ≡ Settles now → ((now : ℕ) → e ≡ Settles now → A) → A
     unsettled e is other = other _ is
@@ -392,10 +275,45 @@ grown_later past opening k e m w = record {
   sessions = w.sessions;
 }
 
+-- the new entries have this step
+pub new_steps : (all : List Moment) (opening : List Opening) (k : Core) (qs : List Queue) (e : Event) → IsKept (book_at opening k all) k qs → (grew : GrewBy k e (happens k e)) → (i : ℕ) → i < length grew.new → slice_get (happens k e).core.entries (length k.server.journal + i) ≡ Some (k.steps + 1)
+new_steps all opening k qs e kept grew i lt = ap (λ (l : List ℕ). slice_get l (length k.server.journal + i)) grew.entries_is ∙ ap (λ c. slice_get (k.entries ++ replicate (length grew.new) (k.steps + 1)) (c + i)) (sym kept.sound.journal.count) ∙ at_new k.entries (length grew.new) (k.steps + 1) i lt
+
+-- of a session that is no client's
+raw_grown_later : (past : List Moment) (opening : List Opening) (k : Core) (e : Event) (m : Moment) → GrowsRaw (book_at opening k past) m → GrowsRaw (book_at opening (happens k e).core (past ++ moment k e ∷ [])) m
+raw_grown_later past opening k e m w = record {
+  session = w.session;
+  on = w.on;
+  on_is = w.on_is;
+  raw = w.raw;
+  own = w.own;
+  new = w.new;
+  journal_is = w.journal_is;
+  steps = λ i lt. entries_later k e (length m.before.server.journal + i) (step_of m) (w.steps i lt);
+  sessions = w.sessions;
+}
+
+raw_grown_now : (all past : List Moment) (opening : List Opening) (k : Core) (qs : List Queue) (e : Event) → IsKept (book_at opening k all) k qs → (grew : GrewBy k e (happens k e)) → (x : Session) → numbered k.sessions grew.session ≡ Some x → is_raw x ≡ true → GrowsRaw (book_at opening (happens k e).core (past ++ moment k e ∷ [])) (moment k e)
+raw_grown_now all past opening k qs e kept grew x at raw = record {
+  session = grew.session;
+  on = x;
+  on_is = at;
+  raw = raw;
+  own = own grew.by;
+  new = grew.new;
+  journal_is = grew.journal_is;
+  steps = λ i lt. new_steps all opening k qs e kept grew i lt;
+  sessions = grew.sessions;
+}
+  where
+    own : ByEvent k e grew.session grew.xid → IsOwnCall (moment k e) grew.session
+    own (inl (now, bytes, b, is, read, may)) = inl (now, grew.xid, bytes, b, is, read, may)
+    own (inr (now, c, is, first, session, number)) = inr (now, c, is, first, session)
+
 -- and is so now
-abbrev pub grown_now : (fits : FitLaws) (all past rest : List Moment) (opening : List Opening) (k : Core) (qs : List Queue) (e : Event) (mid after : List Queue) → Step all past rest opening k qs e mid after → AllEntered all past opening k qs → GrewBy k e (happens k e) → GrowsBy (book_at opening (happens k e).core (past ++ moment k e ∷ [])) (moment k e)
-grown_now fits all past rest opening k qs e mid after s h grew =
-    let t = takes_for fits all past rest opening k qs e mid after s h grew.session grew.xid grew.by in
+abbrev pub grown_now : (fits : FitLaws) (all past rest : List Moment) (opening : List Opening) (k : Core) (qs : List Queue) (e : Event) (mid after : List Queue) → Step all past rest opening k qs e mid after → AllEntered all past opening k qs → (grew : GrewBy k e (happens k e)) → IsOwned k grew.session → GrowsBy (book_at opening (happens k e).core (past ++ moment k e ∷ [])) (moment k e)
+grown_now fits all past rest opening k qs e mid after s h grew owned =
+    let t = takes_for fits all past rest opening k qs e mid after s h grew.session grew.xid owned grew.by in
     record {
       session = grew.session;
       xid = grew.xid;
@@ -403,35 +321,48 @@ grown_now fits all past rest opening k qs e mid after s h grew =
       comes = t.1;
       new = grew.new;
       journal_is = grew.journal_is;
-      steps = λ i lt. ap (λ (l : List ℕ). slice_get l (length k.server.journal + i)) grew.entries_is ∙ ap (λ c. slice_get (k.entries ++ replicate (length grew.new) (k.steps + 1)) (c + i)) (sym s.kept.sound.journal.count) ∙ at_new k.entries (length grew.new) (k.steps + 1) i lt;
+      steps = λ i lt. new_steps all opening k qs e s.kept grew i lt;
       sessions = grew.sessions;
     }
 
 pub entered_event : FitLaws → (all past rest : List Moment) (opening : List Opening) (k : Core) (qs : List Queue) (e : Event) (mid after : List Queue) → Step all past rest opening k qs e mid after → AllEntered all past opening k qs → AllEntered all (past ++ moment k e ∷ []) opening (happens k e).core after
 entered_event fits all past rest opening k qs e mid after s h = record {
   called = subst (UpsSent (past ++ moment k e ∷ []) (happens k e).core.steps) (sym s.after_is) (called_after past k qs mid e s.sends s.finds (ops_after_event fits all past rest opening k qs e mid after s).1 h.called);
-  waiting = λ i c there. elim (g.came i c there) [
-    | inl old ↦ entering_later past (moment k e) c.session c.xid (h.waiting old.0 c old.1)
-    | inr new ↦ (takes_for fits all past rest opening k qs e mid after s h c.session c.xid (inl new)).0
+  waiting = λ i c there owned. elim (g.came i c there) [
+    | inl old ↦ (let home = s.kept.home old.0 c old.1 in entering_later past (moment k e) c.session c.xid (h.waiting old.0 c old.1 (home.0, home.1, owned_before k e c.session home.0 owned.0 home.1 owned.1 owned.2)))
+    | inr new ↦ (takes_for fits all past rest opening k qs e mid after s h c.session c.xid (let x = on_serving c.session new in (x.0, x.1, owned_before k e c.session x.0 owned.0 x.1 owned.1 owned.2)) (inl new)).0
   ];
   each = λ m there. elim (Contains-push_cases past (moment k e) m there) [
-    | inl old ↦ elim (h.each m old) [ inl same ↦ inl same | inr grew ↦ inr (grown_later past opening k e m grew) ]
-    | inr new ↦ subst (λ (z : Moment). ((happens z.before z.event).core.server.journal ≡ z.before.server.journal) ⊎ GrowsBy (book_at opening (happens k e).core (past ++ moment k e ∷ [])) z) new (now_by g.journal)
+    | inl old ↦ elim (h.each m old) [ inl same ↦ inl same | inr grew ↦ inr (elim grew [ inl raw ↦ inl (raw_grown_later past opening k e m raw) | inr own ↦ inr (grown_later past opening k e m own) ]) ]
+    | inr new ↦ subst (λ (z : Moment). ((happens z.before z.event).core.server.journal ≡ z.before.server.journal) ⊎ (GrowsRaw (book_at opening (happens k e).core (past ++ moment k e ∷ [])) z ⊎ GrowsBy (book_at opening (happens k e).core (past ++ moment k e ∷ [])) z)) new (now_by g.journal)
   ];
 }
   where
     g : Grows k e (happens k e)
     g = event_grows k e
 
-    now_by : (((happens k e).core.server.journal ≡ k.server.journal) × ((happens k e).core.entries ≡ k.entries)) ⊎ GrewBy k e (happens k e) → ((happens k e).core.server.journal ≡ k.server.journal) ⊎ GrowsBy (book_at opening (happens k e).core (past ++ moment k e ∷ [])) (moment k e)
+    on_serving : (n : ℕ) {xid : ℕ} → ((now : ℕ) × (bytes : List ℕ) × (b : Body) × (e ≡ Serves n now bytes) × (parse_of server_waiting bytes ≡ Ok (message.Call xid b)) × MayEnter b) → (x : Session) × (numbered k.sessions n ≡ Some x)
+    on_serving n (now, bytes, b, is, read, may) = served_on (book_at opening k all) k qs n now bytes mid s.kept (subst (λ (z : Event). Finds k qs z mid) is s.finds)
+
+    now_by : (((happens k e).core.server.journal ≡ k.server.journal) × ((happens k e).core.entries ≡ k.entries)) ⊎ GrewBy k e (happens k e) → ((happens k e).core.server.journal ≡ k.server.journal) ⊎ (GrowsRaw (book_at opening (happens k e).core (past ++ moment k e ∷ [])) (moment k e) ⊎ GrowsBy (book_at opening (happens k e).core (past ++ moment k e ∷ [])) (moment k e))
     now_by (inl same) = inl same.0
-    now_by (inr grew) = inr (grown_now fits all past rest opening k qs e mid after s h grew)
+    now_by (inr grew) =
+        let x = grew_on grew.by in
+        inr (elim (raw_or_owned x.0) [
+          | inl raw ↦ inl (raw_grown_now all past opening k qs e s.kept grew x.0 x.1 raw)
+          | inr owned ↦ inr (grown_now fits all past rest opening k qs e mid after s h grew (x.0, x.1, owned))
+        ])
+      where
+        -- its session is there
+        grew_on : ByEvent k e grew.session grew.xid → (x : Session) × (numbered k.sessions grew.session ≡ Some x)
+        grew_on (inl b) = on_serving grew.session b
+        grew_on (inr (now, c, is, first, session, number)) = (let w = ready_waits k.server now c first in let home = s.kept.home w.0 c w.1 in (home.0, ap (numbered k.sessions) (sym session) ∙ home.1))
 
 pub carried_entered : FitLaws → Carried AllEntered
 carried_entered fits = record {
-  first = λ all opening tree count kept. record { called = λ n q at_. none_numbered n q at_; waiting = λ i c there. nothing_there c there; each = λ m there. (let lt = there.1 in absurd (omega (arith, lt))) };
+  first = λ all opening tree count kept. record { called = λ n q at_. none_numbered n q at_; waiting = λ i c there owned. nothing_there c there; each = λ m there. (let lt = there.1 in absurd (omega (arith, lt))) };
   steps = λ all past rest opening k qs e mid after s h. entered_event fits all past rest opening k qs e mid after s h;
-  adjusts = λ all past opening k qs index seats same h. record { called = h.called; waiting = h.waiting; each = λ m there. elim (h.each m there) [ inl same ↦ inl same | inr w ↦ inr (record { session = w.session; xid = w.xid; takes = w.takes; comes = w.comes; new = w.new; journal_is = w.journal_is; steps = w.steps; sessions = w.sessions }) ] };
+  adjusts = λ all past opening k qs index seats same h. record { called = h.called; waiting = h.waiting; each = λ m there. elim (h.each m there) [ inl same ↦ inl same | inr grew ↦ inr (elim grew [ inl w ↦ inl (record { session = w.session; on = w.on; on_is = w.on_is; raw = w.raw; own = w.own; new = w.new; journal_is = w.journal_is; steps = w.steps; sessions = w.sessions }) | inr w ↦ inr (record { session = w.session; xid = w.xid; takes = w.takes; comes = w.comes; new = w.new; journal_is = w.journal_is; steps = w.steps; sessions = w.sessions }) ]) ] };
 }
   where
     none_numbered : {B : Type 0} (n : ℕ) (q : Queue) → numbered [] n ≡ Some q → B
@@ -440,9 +371,10 @@ carried_entered fits = record {
 
 -- ---- what it makes of the promise
 
-pub journal_grows : (book : Book) (m : Moment) → ((happens m.before m.event).core.server.journal ≡ m.before.server.journal) ⊎ GrowsBy book m → ((z : Moment) → Contains book.moments z → IsSilent z ⊎ ((k : ℕ) × (o : Op) × (slice_get book.ops k ≡ Some o) × (is_in o (step_of z) (client_of z.before z.event) ≡ true))) → JournalGrows book m
+pub journal_grows : (book : Book) (m : Moment) → ((happens m.before m.event).core.server.journal ≡ m.before.server.journal) ⊎ (GrowsRaw book m ⊎ GrowsBy book m) → ((z : Moment) → Contains book.moments z → IsSilent z ⊎ ((k : ℕ) × (o : Op) × (slice_get book.ops k ≡ Some o) × (is_in o (step_of z) (client_of z.before z.event) ≡ true))) → JournalGrows book m
 journal_grows book m (inl same) owned = inl same
-journal_grows book m (inr g) owned = (let w = own (owned g.takes.sent.moment g.takes.sent.there) in inr (g, w.0, w.1, w.2, w.3))
+journal_grows book m (inr (inl g)) owned = inr (inl g)
+journal_grows book m (inr (inr g)) owned = (let w = own (owned g.takes.sent.moment g.takes.sent.there) in inr (inr (g, w.0, w.1, w.2, w.3)))
   where
     none_sent : (z : Message) → Contains [] z → ⊥
     none_sent z c = let lt = c.1 in absurd (omega (arith, lt))

@@ -11,16 +11,17 @@ use Rattle.server_rules.specs.declared.told.Told.TheVariants as announced
 use Rattle.client_state.specs.declared.step.Outcome.TheVariants as outcome
 use Rattle.register_model.specs.declared.op.Word.TheVariants as words
 use Rattle.trace_ends.specs.Session.{taken_of as session_taken}
-use Rattle.trace_ends.specs.Core.{newest_entries, changed_file, idles}
+use Rattle.wire.specs.declared.fault.WireFault.TheVariants as fault
+use Rattle.trace_ends.specs.Core.{newest_entries, changed_file, idles, serves_none, serves_unless}
 use Rattle.server_core.specs.Leasing.{Leasing}
-use Rattle.kept_promise.proofs.Common.{slice_get, slice_set, cond, find, ◌==◌, Command, File, parse_of, WireFault, Message, FileChange, Wanted, server_step, reply_message, got_step, ended_by, joined, Task, Op, Opening, TakenCall, taken_at, pointed, pointed_at, settled_ops, settled_by, Core, Seat, Session, Event, Event.Joins, Event.Does, Event.Serves, Event.Hears, Event.Settles, Event.Cuts, Event.Hangs, CoreStep, numbered, with_numbered, new_session, session_of, taken_with, server_waits, serves_if, serves, acted, does, joins_as, joins, settles, cuts_if, cuts, hangs_if, hangs, happens, Moment, calls_in, sent_if, owner_in, client_of, Entries, Indexed, deed_by, Book, Queue, ask_message, told_message, ServerStep, connect, calls_by, joined_by}
-use Rattle.kept_promise.proofs.Lists.{some_is, nothing_there, same_or_not, kept_appended, set_else, set_count}
+use Rattle.kept_promise.proofs.Common.{slice_get, slice_set, cond, find, ◌==◌, Command, File, parse_of, WireFault, Message, FileChange, Wanted, server_step, reply_message, got_step, ended_by, joined, Task, Op, Opening, TakenCall, taken_at, pointed, pointed_at, settled_ops, settled_by, Core, Seat, Session, Event, Event.Joins, Event.Does, Event.Serves, Event.Hears, Event.Settles, Event.Cuts, Event.Hangs, CoreStep, numbered, with_numbered, new_session, session_of, taken_with, server_waits, serves_if, serves, acted, does, joins_as, joins, settles, cuts_if, cuts, hangs_if, hangs, happens, Moment, calls_in, sent_if, owner_in, client_of, Entries, Indexed, deed_by, Book, Queue, ask_message, told_message, ServerStep, connect, calls_by, joined_by, is_raw, raw_session, Event.RawJoins, raw_joins_as, raw_joins, loses}
+use Rattle.kept_promise.proofs.Lists.{some_is, nothing_there, same_or_not, kept_appended, set_else, set_count, count_more}
 use Rattle.kept_promise.proofs.PathNames.{IsSmall}
 use Rattle.kept_promise.proofs.Messages.{Job, job, job_of, WaitsFor, content_wanted}
 use Rattle.kept_promise.proofs.Rights.{IsUnmade, gets_file}
 use Rattle.kept_promise.proofs.Fits.{FitLaws}
 use Rattle.kept_promise.proofs.Keys.{own}
-use Rattle.kept_promise.proofs.Turns.{also_numbered, around_with}
+use Rattle.kept_promise.proofs.Turns.{also_numbered, around_with, unnoted, raw_or_owned, unhung_up}
 use Rattle.kept_promise.proofs.Facts.{IsKept}
 use Rattle.kept_promise.proofs.Logs.{IsSilent}
 use Rattle.kept_promise.proofs.RunsCarried.{book_at, moment, Step, FindsAsk, FindsReply, FindsRecall}
@@ -30,9 +31,9 @@ use Rattle.kept_promise.proofs.Caches.{AddsNone, same_notes}
 use Rattle.kept_promise.proofs.Replies.{reply_taken, Recalled, recalled_step, recall_heard, recall_adds, recall_takes, recall_gives}
 use Rattle.kept_promise.proofs.Versions.{of_numbered, takens, Extends, extends_same}
 use Rattle.kept_promise.proofs.ServesFiles.{newest_one}
-use Rattle.kept_promise.proofs.TakenOut.{SettlesOut, settled_to}
+use Rattle.kept_promise.proofs.TakenOut.{SettlesOut, settled_to, raw_ops}
 use Rattle.kept_promise.proofs.Making.{made_change, made_is, entry_of}
-use Rattle.kept_promise.proofs.ServesQuietly.{MadeHere, serves_quiet}
+use Rattle.kept_promise.proofs.ServesQuietly.{MadeHere, serves_quiet, raw_stays}
 use Rattle.kept_promise.proofs.SettlesQuietly.{GoesHere, Settling, makes_commit, makes_else, settling}
 use Rattle.kept_promise.proofs.Joins.{connects}
 use Rattle.kept_promise.proofs.Numbering.{no_calls}
@@ -64,11 +65,10 @@ goes_of m = record { place = m.place; op = m.op; there = m.there; unmade = m.unm
 pub settled_are : (book : Book) (k : Core) (qs : List Queue) (now : ℕ) → IsKept book k qs → Settled k (settles k now).core.ops
 settled_are book k qs now kept = by (settling book k qs now kept)
   where
-    made : (cs : List FileChange) (c : FileChange) → SettlesOut k now c cs → c.what ≡ wanted.Content (content_wanted c.what) → (f : File) → (let r = made_change (at_reading (record k.server { waiting = cs }) now) c (content_wanted c.what) f in Settled k (settled_by k (changed_file (newest_entries r.0.journal r.1.entries)) r.1.told))
-    made cs c out what f =
-        let home = kept.home out.out.place c out.out.there in
+    made : (cs : List FileChange) (c : FileChange) → SettlesOut k now c cs → c.what ≡ wanted.Content (content_wanted c.what) → (f : File) → (home : (x : Session) × (numbered k.sessions c.session ≡ Some x) × (x.hung ≡ false)) → is_raw home.0 ≡ false → (let r = made_change (at_reading (record k.server { waiting = cs }) now) c (content_wanted c.what) f in Settled k (settled_by k (changed_file (newest_entries r.0.journal r.1.entries)) r.1.told))
+    made cs c out what f home owned =
         let q = also_numbered k.sessions qs c.session home.0 kept.made.1 home.1 in
-        let h = kept.sessions c.session home.0 q.0 home.1 q.1 in
+        let h = kept.sessions c.session home.0 q.0 home.1 q.1 owned in
         let its : slice_get (own c.session k.server.waiting) 0 ≡ Some c = ap (λ (l : List FileChange). slice_get l 0) out.out.mine in
         let pending = subst (λ (w : Wanted). WaitsFor book c.session home.0.closing home.0.cut (job h.seat) c.xid c.file w) what (h.pending 0 c its) in
         let there : slice_get k.ops pending.place ≡ Some pending.op = ap (λ (l : List Op). slice_get l pending.place) (sym kept.ops) ∙ pending.there in
@@ -89,7 +89,12 @@ settled_are book k qs now kept = by (settling book k qs now kept)
     by (makes_else (inl same) entered tells removes) = inl same
     by (makes_else (inr gone) entered tells removes) = inr (goes_of gone)
     by (makes_commit c cs f out what there) =
-        subst (λ (t : CoreStep). Settled k t.core.ops) (sym (out.is ∙ ap (settled_to k) (made_is book k.server now c cs f kept.server out.out there what))) (made cs c out what f)
+        let home = kept.home out.out.place c out.out.there in
+        let q = also_numbered k.sessions qs c.session home.0 kept.made.1 home.1 in
+        elim (raw_or_owned home.0) [
+          | inl raw ↦ inl (raw_ops k now c cs home.0 out home.1 (kept.strangers c.session home.0 q.0 home.1 q.1 raw).closing)
+          | inr owned ↦ subst (λ (t : CoreStep). Settled k t.core.ops) (sym (out.is ∙ ap (settled_to k) (made_is book k.server now c cs f kept.server out.out there what))) (made cs c out what f home owned)
+        ]
 
 -- ---- nothing is said
 
@@ -109,11 +114,19 @@ joins_silent k c = (refl, refl, ap calls_in (joins_unsent k c))
 
 pub serves_silent : (k : Core) (n now : ℕ) (bytes : List ℕ) (x : Option Session) → (let t = serves k n now bytes x in (t.up ≡ []) × (t.core.seats ≡ k.seats) × (k.steps ≤ t.core.steps))
 serves_silent k n now bytes None = (refl, refl, omega arith)
-serves_silent k n now bytes (Some x) = by (parse_of (server_waits k n) bytes)
+serves_silent k n now bytes (Some x) = by x.hung
   where
-    by : (m : Result Message WireFault) → (let t = serves_if k n now x m in (t.up ≡ []) × (t.core.seats ≡ k.seats) × (k.steps ≤ t.core.steps))
-    by (Ok m) = (refl, refl, omega arith)
-    by (Err e) = (refl, refl, omega arith)
+    none : (e : WireFault) → (let t = serves_none k n x e in (t.up ≡ []) × (t.core.seats ≡ k.seats) × (k.steps ≤ t.core.steps))
+    none (fault.UnknownXid xid) = (refl, refl, omega arith)
+    none _ = (refl, refl, omega arith)
+
+    read : (m : Result Message WireFault) → (let t = serves_if k n now x m in (t.up ≡ []) × (t.core.seats ≡ k.seats) × (k.steps ≤ t.core.steps))
+    read (Ok m) = (refl, refl, omega arith)
+    read (Err e) = none e
+
+    by : (b : Bool) → (let t = serves_unless k n now bytes x b in (t.up ≡ []) × (t.core.seats ≡ k.seats) × (k.steps ≤ t.core.steps))
+    by true = (refl, refl, omega arith)
+    by false = read (parse_of (server_waits k n) bytes)
 
 pub hangs_silent : (k : Core) (n : ℕ) (x : Option Session) → (let t = hangs k n x in (t.up ≡ []) × (t.core.ops ≡ k.ops) × (t.core.seats ≡ k.seats) × (k.steps ≤ t.core.steps))
 hangs_silent k n None = (refl, refl, refl, omega arith)
@@ -190,9 +203,9 @@ taken_more_at n (u ∷ taken) t lt = (λ y q e. keeps y q (u.xid == y) e ((taken
     adds y q false e later = later e
 
 -- what the server took of a session since is newer
-takens_serve : (k : Core) (n now : ℕ) (bytes : List ℕ) (m : Message) (x : Option Session) → parse_of (server_waits k n) bytes ≡ Ok m → numbered k.sessions n ≡ x → (z : Seat) → Extends k.steps (takens k.sessions z) (takens (serves k n now bytes x).core.sessions z)
-takens_serve k n now bytes m None read is z = extends_same k.steps (takens k.sessions z)
-takens_serve k n now bytes m (Some x) read is z = subst (λ (r : Result Message WireFault). Extends k.steps (takens k.sessions z) (takens (serves_if k n now x r).core.sessions z)) (sym read) (takens_with k.steps n k.sessions x (record x { taken = taken_with x.taken m (k.steps + 1) }) z.session is (called m))
+takens_serve : (k : Core) (n now : ℕ) (bytes : List ℕ) (m : Message) (x : Option Session) → parse_of (server_waits k n) bytes ≡ Ok m → numbered k.sessions n ≡ x → ((y : Session) → x ≡ Some y → y.hung ≡ false) → (z : Seat) → Extends k.steps (takens k.sessions z) (takens (serves k n now bytes x).core.sessions z)
+takens_serve k n now bytes m None read is unhung z = extends_same k.steps (takens k.sessions z)
+takens_serve k n now bytes m (Some x) read is unhung z = subst (λ (b : Bool). Extends k.steps (takens k.sessions z) (takens (serves_unless k n now bytes x b).core.sessions z)) (sym (unhung x refl)) (subst (λ (r : Result Message WireFault). Extends k.steps (takens k.sessions z) (takens (serves_if k n now x r).core.sessions z)) (sym read) (takens_with k.steps n k.sessions x (record x { taken = taken_with x.taken m (k.steps + 1) }) z.session is (called m)))
   where
     called : (m : Message) → Extends k.steps x.taken (taken_with x.taken m (k.steps + 1))
     called (message.Call xid body) = taken_more_at k.steps x.taken (record { xid = xid; step = k.steps + 1 }) (omega arith)
@@ -225,7 +238,8 @@ pub record IsIdle (k : Core) (e : Event) (t : CoreStep) : Type 0 where
   pub seats : SameSeats k.seats t.core.seats
   pub links : (i : ℕ) (seat : Seat) → numbered k.seats i ≡ Some seat → seat.client.linked ≡ joined_by i seat.client.linked e
   pub uncalled : (i n : ℕ) → calls_by i n (moment k e) ≡ n
-  pub count : length t.core.sessions ≡ length k.sessions
+  -- no session goes
+  pub count : length k.sessions ≤ length t.core.sessions
 
 -- each client is as it was
 abbrev as_was : (seats : List Seat) (i : ℕ) (seat : Seat) → numbered seats i ≡ Some seat → (old : Seat) × (es : Entries) × (ix : Indexed × ℕ) × (numbered seats i ≡ Some old) × (seat ≡ with_kept old es ix)
@@ -297,11 +311,19 @@ with_count xs (suc n) x = set_count xs n x
 
 serves_count : (k : Core) (n now : ℕ) (bytes : List ℕ) (o : Option Session) → length (serves k n now bytes o).core.sessions ≡ length k.sessions
 serves_count k n now bytes None = refl
-serves_count k n now bytes (Some x) = by (parse_of (server_waits k n) bytes)
+serves_count k n now bytes (Some x) = by x.hung
   where
-    by : (m : Result Message WireFault) → length (serves_if k n now x m).core.sessions ≡ length k.sessions
-    by (Ok m) = with_count k.sessions n _
-    by (Err e) = refl
+    none : (e : WireFault) → length (serves_none k n x e).core.sessions ≡ length k.sessions
+    none (fault.UnknownXid xid) = refl
+    none _ = with_count k.sessions n _
+
+    read : (m : Result Message WireFault) → length (serves_if k n now x m).core.sessions ≡ length k.sessions
+    read (Ok m) = with_count k.sessions n _
+    read (Err e) = none e
+
+    by : (b : Bool) → length (serves_unless k n now bytes x b).core.sessions ≡ length k.sessions
+    by true = refl
+    by false = read (parse_of (server_waits k n) bytes)
 
 hangs_count : (k : Core) (n : ℕ) (o : Option Session) → length (hangs k n o).core.sessions ≡ length k.sessions
 hangs_count k n None = refl
@@ -322,7 +344,7 @@ asks_still laws book k qs n now bytes mid kept f =
       passes = q.passes;
       ops = elim q.ops [ inl same ↦ inl same | inr made ↦ inr (change_of made) ];
       jobs = λ i z j there is. as_was k.seats i z (ap (λ (l : List Seat). numbered l i) (sym q.seats) ∙ there);
-      newer = λ i z there. takens_serve k n now bytes (ask_message f.1) (numbered k.sessions n) (serves_read laws book k qs n now bytes mid kept f) refl z;
+      newer = λ i z there. takens_serve k n now bytes (ask_message f.1) (numbered k.sessions n) (serves_read laws book k qs n now bytes mid kept f) refl (λ y at_. unhung_up kept n y f.0 at_ f.3 f.1 f.2 f.4) z;
       notes = λ i d at. none_more k.seats i d (ap (λ (l : List Seat). numbered l i) (sym q.seats) ∙ at);
       deedless = λ past. refl;
     }
@@ -335,11 +357,11 @@ asks_idle laws book k qs n now bytes mid kept f =
       seats = subst (SameSeats k.seats) (sym q.seats) (same_seats k.seats);
       links = λ i seat at. refl;
       uncalled = λ i m. no_calls i 0 m (happens k (Serves n now bytes)).up q.up;
-      count = serves_count k n now bytes (numbered k.sessions n);
+      count = let e = serves_count k n now bytes (numbered k.sessions n) in omega (arith, e);
     }
 
 -- the leasing of the server alone changes
-reply_idle : (k : Core) (n now : ℕ) (bytes : List ℕ) (l : Leasing) → happens k (Serves n now bytes) ≡ idles (record k { server = record k.server { leasing = l } }) → IsIdle k (Serves n now bytes) (idles (record k { server = record k.server { leasing = l } }))
+reply_idle : (k : Core) (n now : ℕ) (bytes : List ℕ) (l : Leasing) → unnoted k (happens k (Serves n now bytes)) ≡ idles (record k { server = record k.server { leasing = l } }) → IsIdle k (Serves n now bytes) (idles (record k { server = record k.server { leasing = l } }))
 reply_idle k n now bytes l is = record {
   still = record {
     silent = (refl, refl, ap (λ (t : CoreStep). calls_in t.up) is);
@@ -354,7 +376,7 @@ reply_idle k n now bytes l is = record {
   seats = same_seats k.seats;
   links = λ i seat at. refl;
   uncalled = λ i m. no_calls i 0 m (happens k (Serves n now bytes)).up (ap (λ (t : CoreStep). t.up) is);
-  count = refl;
+  count = omega arith;
 }
 
 -- ---- a client hears a RECALL
@@ -374,7 +396,7 @@ recall_idle k n now bytes r = record {
   seats = same;
   links = λ i seat at. refl;
   uncalled = λ i m. ap (λ (t : CoreStep). m + sent_if (client_of k (Hears n now bytes) == i) t.up) r.is ∙ by m (client_of k (Hears n now bytes) == i);
-  count = refl;
+  count = omega arith;
 }
   where
     same : SameSeats k.seats (with_numbered k.seats r.session.owner (with_kept r.seat r.cache (r.seat.client.index, now)))
@@ -406,6 +428,95 @@ hangs_still k n =
         by true = extends_same k.steps (takens k.sessions z)
         by false = takens_with k.steps n k.sessions x (record x { hung = true }) z.session at (extends_same k.steps x.taken)
 
+-- what is noted of messages that came is nothing of it
+idle_noted : (k : Core) (e : Event) (t : CoreStep) → IsIdle k e (unnoted k t) → IsIdle k e t
+idle_noted k e t h = record { still = still_noted h.still; seats = h.seats; links = h.links; uncalled = h.uncalled; count = h.count }
+  where
+    still_noted : IsStill k e (unnoted k t) → IsStill k e t
+    still_noted h = record { silent = h.silent; asks = h.asks; passes = h.passes; ops = h.ops; jobs = h.jobs; newer = h.newer; notes = h.notes; deedless = h.deedless }
+
+-- or its session is closed
+lost_idle : (k : Core) (n now : ℕ) (bytes : List ℕ) (x : Session) → numbered k.sessions n ≡ Some x → happens k (Serves n now bytes) ≡ loses k n x → IsIdle k (Serves n now bytes) (happens k (Serves n now bytes))
+lost_idle k n now bytes x at lost =
+    let quiet_ = serves_silent k n now bytes (numbered k.sessions n) in
+    record {
+      still = record {
+        silent = (refl, refl, ap calls_in quiet_.0);
+        asks = ap calls_in quiet_.0;
+        passes = quiet_.2;
+        ops = inl (ap (λ (t : CoreStep). t.core.ops) lost);
+        jobs = λ i z j there is. as_was k.seats i z (ap (λ (l : List Seat). numbered l i) (sym quiet_.1) ∙ there);
+        newer = λ i z there. subst (λ (t : CoreStep). Extends k.steps (takens k.sessions z) (takens t.core.sessions z)) (sym lost) (takens_with k.steps n k.sessions x (record x { hung = true }) z.session at (extends_same k.steps x.taken));
+        notes = λ i d is. none_more k.seats i d (ap (λ (l : List Seat). numbered l i) (sym quiet_.1) ∙ is);
+        deedless = λ past. refl;
+      };
+      seats = subst (SameSeats k.seats) (sym quiet_.1) (same_seats k.seats);
+      links = λ i seat at. refl;
+      uncalled = λ i m. no_calls i 0 m (happens k (Serves n now bytes)).up quiet_.0;
+      count = let e = serves_count k n now bytes (numbered k.sessions n) in omega (arith, e);
+    }
+
+-- of a session that is no client's nothing becomes of any client
+raw_newer : (k : Core) (n now : ℕ) (bytes : List ℕ) (x : Session) → numbered k.sessions n ≡ Some x → (z : Seat) → Extends k.steps (takens k.sessions z) (takens (serves k n now bytes (Some x)).core.sessions z)
+raw_newer k n now bytes x at z = by x.hung
+  where
+    called : (m : Message) → Extends k.steps x.taken (taken_with x.taken m (k.steps + 1))
+    called (message.Call xid body) = taken_more_at k.steps x.taken (record { xid = xid; step = k.steps + 1 }) (omega arith)
+    called _ = extends_same k.steps x.taken
+
+    none : (e : WireFault) → Extends k.steps (takens k.sessions z) (takens (serves_none k n x e).core.sessions z)
+    none (fault.UnknownXid xid) = extends_same k.steps (takens k.sessions z)
+    none _ = takens_with k.steps n k.sessions x (record x { hung = true }) z.session at (extends_same k.steps x.taken)
+
+    read : (m : Result Message WireFault) → Extends k.steps (takens k.sessions z) (takens (serves_if k n now x m).core.sessions z)
+    read (Ok m) = takens_with k.steps n k.sessions x (record x { taken = taken_with x.taken m (k.steps + 1) }) z.session at (called m)
+    read (Err e) = none e
+
+    by : (b : Bool) → Extends k.steps (takens k.sessions z) (takens (serves_unless k n now bytes x b).core.sessions z)
+    by true = extends_same k.steps (takens k.sessions z)
+    by false = read (parse_of (server_waits k n) bytes)
+
+raw_idle : (book : Book) (k : Core) (qs : List Queue) (n now : ℕ) (bytes : List ℕ) (x : Session) → numbered k.sessions n ≡ Some x → is_raw x ≡ true → IsKept book k qs → IsIdle k (Serves n now bytes) (happens k (Serves n now bytes))
+raw_idle book k qs n now bytes x at raw kept =
+    let q = also_numbered k.sessions qs n x kept.made.1 at in
+    let quiet_ = serves_silent k n now bytes (numbered k.sessions n) in
+    record {
+      still = record {
+        silent = (refl, refl, ap calls_in quiet_.0);
+        asks = ap calls_in quiet_.0;
+        passes = quiet_.2;
+        ops = inl (raw_stays k n now bytes x at (kept.strangers n x q.0 at q.1 raw).closing);
+        jobs = λ i z j there is. as_was k.seats i z (ap (λ (l : List Seat). numbered l i) (sym quiet_.1) ∙ there);
+        newer = λ i z there. subst (λ (o : Option Session). Extends k.steps (takens k.sessions z) (takens (serves k n now bytes o).core.sessions z)) (sym at) (raw_newer k n now bytes x at z);
+        notes = λ i d is. none_more k.seats i d (ap (λ (l : List Seat). numbered l i) (sym quiet_.1) ∙ is);
+        deedless = λ past. refl;
+      };
+      seats = subst (SameSeats k.seats) (sym quiet_.1) (same_seats k.seats);
+      links = λ i seat at. refl;
+      uncalled = λ i m. no_calls i 0 m (happens k (Serves n now bytes)).up quiet_.0;
+      count = let e = serves_count k n now bytes (numbered k.sessions n) in omega (arith, e);
+    }
+
+-- a session is made that is no client's: one more, and nothing becomes of any client
+raw_up : (k : Core) (s : server.State) (o : Announced) → (raw_joins_as k s o).up ≡ []
+raw_up k s (announced.Session made) = refl
+raw_up k s _ = refl
+
+raw_silent : (k : Core) → IsSilent (moment k RawJoins)
+raw_silent k = let r = server_step k.server event.Connect in (refl, refl, ap calls_in (raw_up k r.0 r.1.told))
+
+raw_more : (k : Core) (s : server.State) (o : Announced) → length k.sessions ≤ length (raw_joins_as k s o).core.sessions
+raw_more k s (announced.Session made) = let e = count_more k.sessions raw_session in omega (arith, e)
+raw_more k s _ = omega arith
+
+raw_seats : (k : Core) (s : server.State) (o : Announced) → SameSeats k.seats (raw_joins_as k s o).core.seats
+raw_seats k s (announced.Session made) = same_seats k.seats
+raw_seats k s _ = same_seats k.seats
+
+raw_still : (book : Book) (k : Core) (qs : List Queue) → IsKept book k qs → (s : server.State) (o : Announced) → IsStill k RawJoins (raw_joins_as k s o)
+raw_still book k qs kept s (announced.Session made) = record { silent = raw_silent k; asks = refl; passes = omega arith; ops = inl refl; jobs = λ i z j there is. as_was k.seats i z there; newer = λ i z there. takens_more k.steps k.sessions raw_session z.session (λ l e. let x = (kept.seats i z there).session l e in (x.0, x.1)); notes = λ i d at. none_more k.seats i d at; deedless = λ past. refl }
+raw_still book k qs kept s _ = record { silent = raw_silent k; asks = refl; passes = omega arith; ops = inl refl; jobs = λ i z j there is. as_was k.seats i z there; newer = λ i z there. extends_same k.steps (takens k.sessions z); notes = λ i d at. none_more k.seats i d at; deedless = λ past. refl }
+
 -- ---- any event
 
 -- one that isn't joined sees no connection lost
@@ -425,7 +536,11 @@ event_turns laws all past rest opening k qs (Joins c) mid after s Z cases =
 event_turns laws all past rest opening k qs (Does c now d) mid after s Z cases = subst (λ (o : Option Seat). IsKept (book_at opening (does k c now d o).core all) (does k c now d o).core after → Z (Does c now d) (does k c now d o)) (sym s.finds.1) (cases.begins c now d s.finds.0 s s.finds.1 s.finds.2) s.left
 event_turns laws all past rest opening k qs (Serves n now bytes) mid after s Z cases = elim s.finds [
   | inl ask ↦ cases.idle (happens k (Serves n now bytes)) (asks_idle laws (book_at opening k all) k qs n now bytes mid s.kept ask)
-  | inr reply ↦ (let l = reply_taken laws k qs n now bytes mid reply in subst (Z (Serves n now bytes)) (sym l.1) (cases.idle (idles (record k { server = record k.server { leasing = l.0 } })) (reply_idle k n now bytes l.0 l.1)))
+  | inr (inl reply) ↦ elim (reply_taken laws k qs n now bytes mid reply) [
+    | inl l ↦ cases.idle (happens k (Serves n now bytes)) (idle_noted k (Serves n now bytes) (happens k (Serves n now bytes)) (subst (IsIdle k (Serves n now bytes)) (sym l.1) (reply_idle k n now bytes l.0 l.1)))
+    | inr lost ↦ cases.idle (happens k (Serves n now bytes)) (lost_idle k n now bytes reply.session reply.at lost)
+  ]
+  | inr (inr raw) ↦ cases.idle (happens k (Serves n now bytes)) (raw_idle (book_at opening k all) k qs n now bytes raw.0 raw.1 raw.2 s.kept)
 ]
 event_turns laws all past rest opening k qs (Hears n now bytes) mid after s Z cases = elim s.finds [
   | inl told ↦
@@ -440,7 +555,7 @@ event_turns laws all past rest opening k qs (Settles now) mid after s Z cases = 
   seats = same_seats k.seats;
   links = λ i seat at. refl;
   uncalled = λ i m. no_calls i 0 m [] refl;
-  count = refl;
+  count = omega arith;
 })
 event_turns laws all past rest opening k qs (Cuts c) mid after s Z cases = subst (λ (o : Option Seat). IsKept (book_at opening (cuts k c o).core all) (cuts k c o).core after → Z (Cuts c) (cuts k c o)) (sym s.finds.1) (by s.finds.0.client.linked refl) s.left
   where
@@ -451,7 +566,7 @@ event_turns laws all past rest opening k qs (Cuts c) mid after s Z cases = subst
       seats = same_seats k.seats;
       links = cut_links k c s.finds.0 s.finds.1 is;
       uncalled = λ i m. no_calls i 0 m (happens k (Cuts c)).up (cuts_unsent k c);
-      count = refl;
+      count = omega arith;
     })
 event_turns laws all past rest opening k qs (Hangs n) mid after s Z cases =
     let q = hangs_silent k n (numbered k.sessions n) in
@@ -460,7 +575,16 @@ event_turns laws all past rest opening k qs (Hangs n) mid after s Z cases =
       seats = subst (SameSeats k.seats) (sym q.2) (same_seats k.seats);
       links = λ i seat at. refl;
       uncalled = λ i m. no_calls i 0 m (happens k (Hangs n)).up q.0;
-      count = hangs_count k n (numbered k.sessions n);
+      count = let e = hangs_count k n (numbered k.sessions n) in omega (arith, e);
+    })
+event_turns laws all past rest opening k qs RawJoins mid after s Z cases =
+    let r = server_step k.server event.Connect in
+    cases.idle (raw_joins k) (record {
+      still = raw_still (book_at opening k all) k qs s.kept r.0 r.1.told;
+      seats = raw_seats k r.0 r.1.told;
+      links = λ i seat at. refl;
+      uncalled = λ i m. no_calls i 0 m (happens k RawJoins).up (raw_up k r.0 r.1.told);
+      count = raw_more k r.0 r.1.told;
     })
 
 pub event_cases : FitLaws → (all past rest : List Moment) (opening : List Opening) (k : Core) (qs : List Queue) (e : Event) (mid after : List Queue) → Step all past rest opening k qs e mid after → (Z : Event → CoreStep → Type 0) → EventCases all past rest opening k qs e mid after Z → Z e (happens k e)

@@ -8,7 +8,7 @@ use Rattle.client_state.specs.State as client
 use Rattle.client_state.specs.declared.task.Stage.TheVariants as stage
 use Rattle.client_state.specs.declared.task.Way.TheVariants as way
 use Rattle.register_model.specs.declared.op.Outcome.TheVariants as told
-use Rattle.kept_promise.proofs.Common.{slice_get, not, MessageFits, Pending, stands, Temp, key_of, FileChange, File, Local, Stage, UploadCall, Op, Core, Seat, Session, numbered, hashed_of, Book, HadContent, Or, value_at, version_at, Call, Call.Commit, Call.Walks, Ask, Queue, told_message, cond, changes, Leasing, taken_at}
+use Rattle.kept_promise.proofs.Common.{slice_get, not, is_raw, MessageFits, Pending, stands, Temp, key_of, FileChange, File, Local, Stage, UploadCall, Op, Core, Seat, Session, numbered, hashed_of, Book, HadContent, Or, value_at, version_at, Call, Call.Commit, Call.Walks, Ask, Queue, told_message, cond, changes, Leasing, taken_at}
 use Rattle.kept_promise.proofs.PathNames.{IsWalkSmall, walk_calls, is_creating}
 use Rattle.kept_promise.proofs.Statements.{IsSpoken, ToldFits, CallFits}
 use Rattle.kept_promise.proofs.Keys.{times, own, on_way, pending_key, IsOurs}
@@ -24,6 +24,7 @@ use Rattle.server_law.proofs.lemmas.Trees.{IsBounded}
 use Rattle.kept_promise.proofs.Rooted.{IsRooted}
 use Rattle.tree_nodes.specs.Nodes.{with_id}
 use Rattle.kept_promise.proofs.Unused.{IsUnused}
+use Rattle.kept_promise.proofs.RecallsKept.{AreRecalls}
 
 -- ---- xids
 
@@ -103,6 +104,20 @@ pub record IsSession (book : Book) (seats : List Seat) (s : server.State) (n : �
   pub old : (k : ℕ) → x.closing ≡ Some k → (o : Op) × (slice_get book.ops k ≡ Some o) × (o.client ≡ x.owner)
   pub orderly : x.cut ≡ false → Orderly book n s.temps x.hung q seat
 
+-- ---- a session that is no client's
+
+-- What it does is bounded by its calls alone: of what it sends nothing is known, and nothing is said of it but that what it holds at the server is its own.
+-- What is sent to it vanishes, and none of the operations of clients is its.
+pub record IsRawSession (s : server.State) (n : ℕ) (x : Session) (q : Queue) : Type 0 where
+  pub shut : x.cut ≡ true
+  pub closing : x.closing ≡ None
+  pub ups : q.ups ≡ []
+  pub downs : q.downs ≡ []
+  pub stands_is : stands s n ≡ not x.hung
+  pub temps : (i m : ℕ) (e : ℕ × Temp) → m < 4294967296 → slice_get s.temps i ≡ Some e → e.0 ≡ key_of n m → key_of e.1.session e.1.fd ≡ e.0
+  -- it has one change that waits at most
+  pub single : length (own n s.waiting) ≤ 1
+
 -- ---- a client
 
 -- whether the server may give the operation of a stage its file
@@ -164,9 +179,9 @@ abbrev pub IsWanted : (file : ℕ) → Wanted → Type 0
 IsWanted file (wanted.Content content) = Unit {0}
 IsWanted file (wanted.Asked a) = (file ≡ file_of a) × AreTwo a × IsWalkSmall (walk_for a)
 
--- the term has a record
-abbrev pub HasTerm : Leasing → Type 0
-HasTerm g = g.term < 4294967296
+-- the term has a record, and what is waited for are answers to RECALLs
+abbrev pub IsLeasing : Leasing → Type 0
+IsLeasing g = (g.term < 4294967296) × AreRecalls g.calls
 
 pub record IsServer (book : Book) (s : server.State) : Type 0 where
   pub held : (f : ℕ) → FileIs book f (the_files.file_at s.tree f)
@@ -186,11 +201,16 @@ pub record IsServer (book : Book) (s : server.State) : Type 0 where
   -- each change that waits is of a file of the tree
   pub targets : (i : ℕ) (c : FileChange) → slice_get s.waiting i ≡ Some c → WasThere book c.file
   pub xids : (i : ℕ) (c : FileChange) → slice_get s.waiting i ≡ Some c → c.xid < 4294967296
-  pub leases : HasTerm s.leasing
+  pub leases : IsLeasing s.leasing
   -- the version that the clients speak is one that is served
   pub serves : IsSpoken book.lbfs
 
 -- ---- all of it
+
+-- of each session a step that is past, or none
+pub record AreCome (came : List ℕ) (count steps : ℕ) : Type 0 where
+  pub many : length came ≡ count
+  pub past : (n p : ℕ) → numbered came n ≡ Some p → p ≤ steps
 
 pub record IsKept (book : Book) (k : Core) (qs : List Queue) : Type 0 where
   pub lbfs : book.lbfs ≡ k.lbfs
@@ -201,7 +221,10 @@ pub record IsKept (book : Book) (k : Core) (qs : List Queue) : Type 0 where
   pub sound : IsSound book
   pub server : IsServer book k.server
   pub made : (length k.sessions ≡ k.server.sessions_made) × (length qs ≡ length k.sessions)
-  pub sessions : (n : ℕ) (x : Session) (q : Queue) → numbered k.sessions n ≡ Some x → numbered qs n ≡ Some q → IsSession book k.seats k.server n x q
+  pub raws : book.raws ≡ k.raws
+  pub came : AreCome k.came (length k.sessions) k.steps
+  pub sessions : (n : ℕ) (x : Session) (q : Queue) → numbered k.sessions n ≡ Some x → numbered qs n ≡ Some q → is_raw x ≡ false → IsSession book k.seats k.server n x q
+  pub strangers : (n : ℕ) (x : Session) (q : Queue) → numbered k.sessions n ≡ Some x → numbered qs n ≡ Some q → is_raw x ≡ true → IsRawSession k.server n x q
   pub seats : (i : ℕ) (seat : Seat) → numbered k.seats i ≡ Some seat → IsSeat book k.sessions i seat
   -- each operation that runs is its client's job
   pub running : (p : ℕ) (o : Op) → slice_get book.ops p ≡ Some o → o.outcome ≡ told.Running → (seat : Seat) × (j : Job) × (numbered k.seats o.client ≡ Some seat) × (job seat ≡ Some j) × (j.place ≡ p)

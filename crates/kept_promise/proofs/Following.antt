@@ -11,7 +11,7 @@ use Rattle.transfer_rules.specs.Limits.{calls_most}
 use Rattle.kept_promise.proofs.Common.{Indexed, slice_get, slice_set, ◌==◌, Command, Message, WireFault, command_step, got_step, joined, cut, ended_by, ClientStep, Ended, Task, Op, Opening, word_of, file_of, value_at_begin, Core, Seat, new_seat, Session, Event, Event.Joins, Event.Does, Event.Hears, Event.Cuts, CoreStep, numbered, with_numbered, acted, hears, does, joins, cuts_if, happens, place_with, Moment, Deed, deed_by, deeds_of, joined_by, joined_from, owner_in, calls_among, sent_if, calls_by, calls_from, Book, Queue, Tree, after_one, is_untold, told_message}
 use Rattle.kept_promise.proofs.Lists.{some_is, nothing_there, same_or_not, of_appended, within, true_and_false}
 use Rattle.kept_promise.proofs.Keys.{own}
-use Rattle.kept_promise.proofs.Turns.{around_with, also_numbered}
+use Rattle.kept_promise.proofs.Turns.{around_with, also_numbered, owned_uncut}
 use Rattle.kept_promise.proofs.Facts.{IsMatched, IsKept, is_naming}
 use Rattle.kept_promise.proofs.Adjusts.{SameSeats, adjusted_core}
 use Rattle.kept_promise.proofs.RunsCarried.{Header, book_at, first_core, moment, Step, Carried}
@@ -298,7 +298,7 @@ still_joined book more k after qs ts c seat now kept left here there sessions = 
     uncut : (book : Book) (k : Core) (qs : List Queue) (seat : Seat) → IsKept book k qs → numbered k.seats c ≡ Some seat → (n : ℕ) (x : Session) → numbered k.sessions n ≡ Some x → x.cut ≡ false → x.owner ≡ c → seat.client.linked ≡ true
     uncut book k qs seat kept here n x at whole owner =
         let q = also_numbered k.sessions qs n x kept.made.1 at in
-        let s = kept.sessions n x q.0 at q.1 in
+        let s = kept.sessions n x q.0 at q.1 (owned_uncut kept n x at whole) in
         ap (λ (z : Seat). z.client.linked) (some_is seat s.seat (sym here ∙ ap (numbered k.seats) (sym owner) ∙ s.owner)) ∙ (s.here whole).1
 
     -- and the other way round

@@ -35,6 +35,7 @@ use Rattle.register_model.specs.declared.op.Word.TheVariants as words
 use Rattle.path_calls.specs.Told.{walk_told}
 use Rattle.path_calls.specs.declared.answers.Told.TheVariants as walk_told_as
 use Rattle.kept_promise.proofs.Rights.{gets_file}
+use Rattle.kept_promise.proofs.Turns.{has_owner}
 
 abbrev FindsNone : State × ClientStep → Type 0
 FindsNone r = r.1.found ≡ None
@@ -340,7 +341,7 @@ Quietly acts w = (acts.found ≡ None) ⊎ (changes w ≡ false)
 -- so is each that hears an answer
 pub heard_quiet : (book : Book) (k : Core) (qs : List Queue) (n now : ℕ) (bytes : List ℕ) (mid : List Queue) → IsKept book k qs → (h : Heard k qs n now bytes mid) → (m : Result Message WireFault) (j : Job) → job h.seat ≡ Some j → Quietly (got_step h.seat.client m now).1 (stage_word j.stage)
 heard_quiet book k qs n now bytes mid kept h m j is =
-    let s = kept.sessions n h.session h.queue h.at h.queue_is in
+    let s = kept.sessions n h.session h.queue h.at h.queue_is (has_owner k.seats h.session h.seat h.owner) in
     let same : s.seat ≡ h.seat = some_is s.seat h.seat (sym s.owner ∙ h.owner) in
     let task = job_task h.seat.place h.seat.client.task j is in
     elim (stage_quiet j.stage) [
@@ -352,7 +353,7 @@ heard_quiet book k qs n now bytes mid kept h m j is =
 -- and none of an operation that has its file
 pub heard_apart : (book : Book) (k : Core) (qs : List Queue) (n now : ℕ) (bytes : List ℕ) (mid : List Queue) → IsKept book k qs → (h : Heard k qs n now bytes mid) → (m : Result Message WireFault) (j : Job) → job h.seat ≡ Some j → ((got_step h.seat.client m now).1.found ≡ None) ⊎ (j.file ≡ 0)
 heard_apart book k qs n now bytes mid kept h m j is =
-    let s = kept.sessions n h.session h.queue h.at h.queue_is in
+    let s = kept.sessions n h.session h.queue h.at h.queue_is (has_owner k.seats h.session h.seat h.owner) in
     let same : s.seat ≡ h.seat = some_is s.seat h.seat (sym s.owner ∙ h.owner) in
     let task = job_task h.seat.place h.seat.client.task j is in
     elim (by j.stage ((s.talk h.uncut).fetch j (ap job same ∙ is))) [

@@ -90,7 +90,7 @@ no_file_goes t m f there is true e = sym (ap (the_files.file_at t) (sym same) �
 abbrev remove_walk : (dir : ℕ) → List ℕ → Walk
 remove_walk dir name = record { dir = dir; left = []; goal = goal.Remove name }
 
-abbrev remove_asked : (dir : ℕ) → List ℕ → (file : ℕ) → Asked
+abbrev pub remove_asked : (dir : ℕ) → List ℕ → (file : ℕ) → Asked
 remove_asked dir name file = asked.Remove (record { spot = spot_of dir name; file = file })
 
 pub data RemoveComes (t : Tree) (held : Reservation) (busy : Bool) (dir : ℕ) (name : List ℕ) : Type 0 where
@@ -133,7 +133,7 @@ remove_comes_so t held busy dir name = by (asks_remove t held busy dir name) ref
 abbrev rename_walk : (from : ℕ) → List ℕ → (to : ℕ) → List ℕ → Walk
 rename_walk from name to to_name = record { dir = to; left = []; goal = goal.RenameTo from name to_name }
 
-abbrev rename_asked : (from : ℕ) → List ℕ → (to : ℕ) → List ℕ → (node file : ℕ) → Asked
+abbrev pub rename_asked : (from : ℕ) → List ℕ → (to : ℕ) → List ℕ → (node file : ℕ) → Asked
 rename_asked from name to to_name node file = asked.Rename (record { from = spot_of from name; to = spot_of to to_name; node = node; file = file })
 
 -- one is done at once: its entries are of names alone

@@ -39,7 +39,7 @@ use Rattle.trace_replay.specs.Faithful.{IsKind, left_by as left_of}
 use Rattle.trace_replay.specs.Naming.{entry_file, refusal_of}
 use Rattle.trace_ends.specs.Ops.{pointed_at, pointed}
 use Rattle.server_law.proofs.lemmas.Trees.{IsBounded, given}
-use Rattle.kept_promise.proofs.Common.{slice_get, slice_set, cond, option_map, unwrap_or, value_from, Contains, Contains-push, MessageFits, at, FileChange, Entry, Op, Word, Core, Seat, Session, Event.Settles, CoreStep, numbered, with_numbered, happens, unless, quiet, Book, value_at, version_at, Reply.Walked, NameReply, name_answer, Told, Queue, told_message}
+use Rattle.kept_promise.proofs.Common.{slice_get, slice_set, cond, option_map, unwrap_or, value_from, Contains, Contains-push, MessageFits, at, FileChange, Entry, Op, Word, Core, Seat, Session, Event.Settles, CoreStep, numbered, with_numbered, happens, unless, quiet, Book, value_at, version_at, Reply.Walked, NameReply, name_answer, Told, Queue, told_message, is_raw}
 use Rattle.trace_replay.specs.OwnCalls.{others_waiting}
 use Rattle.kept_promise.proofs.Lists.{some_is, nothing_there, at_replaced, of_replaced}
 use Rattle.kept_promise.proofs.PathNames.{is_creating}
@@ -55,16 +55,17 @@ use Rattle.kept_promise.proofs.History.{onward, AreNames, made_op, made_book, Is
 use Rattle.kept_promise.proofs.Later.{taken_for_later, taken_for_same}
 use Rattle.kept_promise.proofs.MadeFiles.{LetsGo, gone_files, gone_fresh}
 use Rattle.kept_promise.proofs.Takes.{file_still, fresh_still}
-use Rattle.kept_promise.proofs.Turns.{turned_core}
+use Rattle.kept_promise.proofs.Turns.{turned_core, unnoted, came_same}
 use Rattle.kept_promise.proofs.Fits.{FitLaws}
 use Rattle.kept_promise.proofs.Facts.{FileIs, IsServer, IsSession, IsKept}
 use Rattle.kept_promise.proofs.ServesFiles.{pointed_none, count_is, newest_more}
 use Rattle.kept_promise.proofs.Leading.{IsNoted, Leads, downs_put, downs_put_in}
 use Rattle.kept_promise.proofs.Rooted.{IsRooted}
-use Rattle.kept_promise.proofs.TakenOut.{SettlesOut, settled_to}
+use Rattle.kept_promise.proofs.TakenOut.{SettlesOut, settled_to, owned_raws}
 use Rattle.kept_promise.proofs.GoingSettles.{makes_for, answer_key, settled_server, ShowsSettled, kept_settled, settled_came}
 use Rattle.kept_promise.proofs.Unused.{unused_gone}
 use Rattle.kept_promise.proofs.Statements.{ToldFits}
+use Rattle.kept_promise.proofs.Hangs.{leads_noted}
 
 -- ---- the step
 
@@ -77,7 +78,7 @@ asked_step k now c cs p = record (quiet (record k {
   entries = k.entries ++ replicate (count_of p.1.first p.1.second) (k.steps + 1);
 })) { down = record { session = c.session; message = message.Answer c.xid (body.Nfs p.1.answer) } ∷ [] }
 
-pub asked_settles : (k : Core) (now : ℕ) (c : FileChange) (cs : List FileChange) (a : Asked) → SettlesOut k now c cs → c.what ≡ wanted.Asked a → settles k now ≡ asked_step k now c cs (tree_settles k.server.tree (server.held cs) a)
+pub asked_settles : (k : Core) (now : ℕ) (c : FileChange) (cs : List FileChange) (a : Asked) → SettlesOut k now c cs → c.what ≡ wanted.Asked a → unnoted k (settles k now) ≡ asked_step k now c cs (tree_settles k.server.tree (server.held cs) a)
 asked_settles k now c cs a out what =
     out.is
     ∙ ap (λ (w : Wanted). settled_to k (makes_change (at (record k.server { waiting = cs }) now) c w)) what
@@ -112,13 +113,13 @@ fit_for (asked.Remove r) v x is = ap is_some is
 fit_for (asked.Rename r) v x is = ap is_some is
 
 -- the entries of what is done, where the first is of the file that goes
-entries_gone : (n : ℕ) (first second : Option TreeEntry) (e : TreeEntry) → first ≡ Some e → entries_by n first second ≡ written_by n e ∷ entered_by n second
+pub entries_gone : (n : ℕ) (first second : Option TreeEntry) (e : TreeEntry) → first ≡ Some e → entries_by n first second ≡ written_by n e ∷ entered_by n second
 entries_gone n first second e is = ap (λ (o : Option TreeEntry). entries_by n o second) is
 
-count_gone : (n : ℕ) (first second : Option TreeEntry) (e : TreeEntry) → first ≡ Some e → count_of first second ≡ length (written_by n e ∷ entered_by n second)
+pub count_gone : (n : ℕ) (first second : Option TreeEntry) (e : TreeEntry) → first ≡ Some e → count_of first second ≡ length (written_by n e ∷ entered_by n second)
 count_gone n first second e is = count_is n first second ∙ ap (λ (l : List Entry). length l) (entries_gone n first second e is)
 
-second_names : (n : ℕ) (second : Option TreeEntry) → IsName second → AreNames (entered_by n second)
+pub second_names : (n : ℕ) (second : Option TreeEntry) → IsName second → AreNames (entered_by n second)
 second_names n None a i e at = nothing_there e at
 second_names n (Some y) a zero e at = ap (λ (z : Entry). is_of_file z.kind) (sym (some_is (written_by n y) e at)) ∙ ap is_of_file (a y refl)
 second_names n (Some y) a (suc i) e at = nothing_there e at
@@ -131,7 +132,7 @@ lets_for (asked.Remove r) o is = inl is
 lets_for (asked.Rename r) o is = inr is
 
 module _ (laws : FitLaws) (book : Book) (k : Core) (qs : List Queue) (now : ℕ) (c : FileChange) (cs : List FileChange) (a : Asked) (kept : IsKept book k qs) (noted : IsNoted book k (Settles now)) (out : SettlesOut k now c cs) (what : c.what ≡ wanted.Asked a)
-    (x : Session) (q : Queue) (here : numbered k.sessions c.session ≡ Some x) (unhung : x.hung ≡ false) (is : numbered qs c.session ≡ Some q) (p : IsGoing book c.session x.closing x.cut (job (kept.sessions c.session x q here is).seat) c.xid a) where
+    (x : Session) (q : Queue) (here : numbered k.sessions c.session ≡ Some x) (unhung : x.hung ≡ false) (is : numbered qs c.session ≡ Some q) (owned : is_raw x ≡ false) (p : IsGoing book c.session x.closing x.cut (job (kept.sessions c.session x q here is owned).seat) c.xid a) where
   abbrev n : ℕ
   n = c.session
 
@@ -155,7 +156,7 @@ module _ (laws : FitLaws) (book : Book) (k : Core) (qs : List Queue) (now : ℕ)
   small : contents_size t.nodes + server.waiting_size cs ≤ 1073741824
   small = let z = kept.server.bytes in let e = out.out.bytes in omega (arith, z, e)
 
-  step_is : happens k (Settles now) ≡ asked_step k now c cs settled
+  step_is : unnoted k (happens k (Settles now)) ≡ asked_step k now c cs settled
   step_is = asked_settles k now c cs a out what
 
   sent : (r : NameReply) → settled.1.answer ≡ name_answer r → Contains (happens k (Settles now)).down (record { session = n; message = message.Answer c.xid (body.Nfs (name_answer r)) })
@@ -169,7 +170,7 @@ module _ (laws : FitLaws) (book : Book) (k : Core) (qs : List Queue) (now : ℕ)
   -- ---- its session
 
   abbrev h : IsSession book k.seats k.server n x q
-  h = kept.sessions n x q here is
+  h = kept.sessions n x q here is owned
 
   job_walks : x.cut ≡ false → (j : Job) → job h.seat ≡ Some j → (j.place ≡ p.place) × (j.stage ≡ stage.Walking c.xid (walk_for a))
   job_walks uncut j at =
@@ -190,19 +191,19 @@ module _ (laws : FitLaws) (book : Book) (k : Core) (qs : List Queue) (now : ℕ)
       → ShowsSettled book more k now c cs x q tree (k.server.journal ++ es) r made h → Leads book qs (happens k (Settles now))
   lead more tree es d r made settled_is answer entries count moments opening steps ops entered_is shows =
       let t : Told = record { xid = c.xid; reply = Walked r } in
-      let done = kept_settled book more k qs now c cs a x q tree (k.server.journal ++ es) r made kept out.out here unhung is p shows in
+      let done = kept_settled book more k qs now c cs a x q tree (k.server.journal ++ es) r made kept out.out here unhung is owned p shows in
       let core : (turned_core k more (settled_server k.server now cs tree (k.server.journal ++ es)) k.seats k.sessions) ≡ (stepped tree es (name_answer r)).core =
       ap (λ (s : ℕ). record k { server = settled_server k.server now cs tree (k.server.journal ++ es); seats = k.seats; sessions = k.sessions; steps = s; ops = more.ops; entries = more.entries }) (steps ∙ ap (λ (s : ℕ). s + 1) kept.steps)
       ∙ ap (λ (o : List Op). record k { server = settled_server k.server now cs tree (k.server.journal ++ es); seats = k.seats; sessions = k.sessions; steps = k.steps + 1; ops = o; entries = more.entries }) (ops ∙ ap (λ (l : List Op). settled_ops l (book.steps + 1) (changed_file es) (Some x)) kept.ops ∙ ap (λ (s : ℕ). settled_ops k.ops (s + 1) (changed_file es) (Some x)) kept.steps ∙ ap (settled_ops k.ops (k.steps + 1) (changed_file es)) (sym here))
       ∙ ap (λ (l : List ℕ). record k { server = settled_server k.server now cs tree (k.server.journal ++ es); seats = k.seats; sessions = k.sessions; steps = k.steps + 1; ops = settled_ops k.ops (k.steps + 1) (changed_file es) (numbered k.sessions n); entries = l }) (entered_is ∙ ap (λ (l : List ℕ). l ++ replicate (length es) (book.steps + 1)) kept.entries ∙ ap (λ (s : ℕ). k.entries ++ replicate (length es) (s + 1)) kept.steps) in
-      subst (Leads book qs) (sym (step_is ∙ ap (asked_step k now c cs) settled_is ∙ stepped_is tree es d r answer entries count))
+      leads_noted book k qs (settles k now) (out.raws ∙ owned_raws k (at (record k.server { waiting = cs }) now) c c.what x here owned) (came_same k.came (k.steps + 1)) (subst (Leads book qs) (sym (step_is ∙ ap (asked_step k now c cs) settled_is ∙ stepped_is tree es d r answer entries count))
       (record {
-        sends = record { replies = []; replies_fit = tt; asks = []; up_is = refl; recalls = []; recalls_fit = tt; tolds = (n, t) ∷ []; down_is = refl };
+        sends = record { replies = []; replies_fit = tt; asks = []; up_is = refl; strays = []; strays_cut = tt; recalls = []; recalls_fit = tt; tolds = (n, t) ∷ []; down_is = refl };
         more = more;
         moments = moments;
         opening = opening;
         kept = subst (λ (z : List Queue). IsKept more (stepped tree es (name_answer r)).core z) (sym (told_queue k.sessions qs n x q t here is)) (subst (λ (z : Core). IsKept more z (with_numbered qs n (record q { downs = unless x.cut q.downs (t ∷ []) }))) core done);
-      })
+      }))
     where
       stepped : Tree → List Entry → Nfs → CoreStep
       stepped tree es m = record (quiet (record k {

@@ -55,7 +55,7 @@ use Rattle.kept_promise.proofs.Taken.{finds_more, answer_found}
 use Rattle.kept_promise.proofs.Takes.{took, file_still, fresh_still}
 use Rattle.kept_promise.proofs.Fits.{FitLaws}
 use Rattle.kept_promise.proofs.Facts.{FileIs, is_there, IsServer, IsSession}
-use Rattle.kept_promise.proofs.Serves.{answered, parsed, parsed_at}
+use Rattle.kept_promise.proofs.Serves.{answered, parsed, parsed_at, serves_as, leads_got}
 use Rattle.kept_promise.proofs.ServesFiles.{count_is, making_got, pointed_none}
 use Rattle.kept_promise.proofs.Calls.{Given, session_in, first_fits, rest_of, leads_by, same_temps, held_still}
 use Rattle.kept_promise.proofs.Orderly.{locals_of, Orderly}
@@ -65,6 +65,7 @@ use Rattle.kept_promise.proofs.Entering.{entered_server, entered_step, leads_ent
 use Rattle.kept_promise.proofs.Waitings.{ComesToWait, leads_coming}
 use Rattle.kept_promise.proofs.Leading.{Leads}
 use Rattle.kept_promise.proofs.Unused.{unused_same}
+use Rattle.kept_promise.proofs.Turns.{unnoted}
 
 -- what waits is of the procedure that was asked for
 wanted_is : (w : Walk) (a : Asked) (lbfs xid n : ℕ) → AsksFor w a → change_key (coming n xid a) ≡ ask_key (record { lbfs = lbfs; xid = xid; call = Walks w })
@@ -127,11 +128,15 @@ module _ (laws : FitLaws) (book : Book) (k : Core) (qs : List Queue) (n now : �
   standing : stands k.server n ≡ true
   standing = h.stands_is ∙ ap not g.unhung
 
-  answered_is : (after : Tree) (d : Finished) → comes_by t held busy w.dir w.goal ≡ (after, Answered d) → happens k (Serves n now (message_spell (ask_message a))) ≡ making_got k n now x xid (after, d)
-  answered_is after d is = ap (serves k n now (message_spell (ask_message a))) g.at ∙ ap (serves_if k n now x) (parsed_at laws k n a fits) ∙ got_answered k n now x xid w after d fits.1 going standing is
+  answered_is : (after : Tree) (d : Finished) → comes_by t held busy w.dir w.goal ≡ (after, Answered d) → unnoted k (happens k (Serves n now (message_spell (ask_message a)))) ≡ making_got k n now x xid (after, d)
+  answered_is after d is = ap (unnoted k) (serves_as k n now (message_spell (ask_message a)) x (ask_message a) g.at g.unhung (parsed_at laws k n a fits)) ∙ got_answered k n now x xid w after d fits.1 going standing is
 
-  waits_is : (b : Asked) → comes_by t held busy w.dir w.goal ≡ (t, Waits b) → happens k (Serves n now (message_spell (ask_message a))) ≡ waits_got k n now x xid b
-  waits_is b is = ap (serves k n now (message_spell (ask_message a))) g.at ∙ ap (serves_if k n now x) (parsed_at laws k n a fits) ∙ got_waits k n now x xid w b fits.1 going standing is
+  waits_is : (b : Asked) → comes_by t held busy w.dir w.goal ≡ (t, Waits b) → unnoted k (happens k (Serves n now (message_spell (ask_message a)))) ≡ waits_got k n now x xid b
+  waits_is b is = ap (unnoted k) (serves_as k n now (message_spell (ask_message a)) x (ask_message a) g.at g.unhung (parsed_at laws k n a fits)) ∙ got_waits k n now x xid w b fits.1 going standing is
+
+  -- what is noted beside it
+  noted_now : Leads book (rest_of qs n q us) (unnoted k (happens k (Serves n now (message_spell (ask_message a))))) → Leads book (rest_of qs n q us) (happens k (Serves n now (message_spell (ask_message a))))
+  noted_now = leads_got book k (rest_of qs n q us) n now (message_spell (ask_message a)) x g.at g.owned
 
   sent : (after : Tree) (d : Finished) (r : NameReply) → comes_by t held busy w.dir w.goal ≡ (after, Answered d) → d.answer ≡ name_answer r → Contains (happens k (Serves n now (message_spell (ask_message a)))).down (record { session = n; message = message.Answer xid (body.Nfs (name_answer r)) })
   sent after d r is same =
@@ -166,10 +171,10 @@ module _ (laws : FitLaws) (book : Book) (k : Core) (qs : List Queue) (n now : �
 
   serve_refused : (s : Status) (r : NameReply) → comes_by t held busy w.dir w.goal ≡ (t, Answered (said (name_answer r))) → RefusedAs t w s → refusal_of (name_answer r) ≡ Some s → walk_told w (name_answer r) ≡ leading.Ends (walk_end.Refused s) → nfs_proc (name_answer r) ≡ nfs_proc (next_call w) → ToldFits book.lbfs (record { xid = xid; reply = Walked r }) → Leads book (rest_of qs n q us) (happens k (Serves n now (message_spell (ask_message a))))
   serve_refused s r is why refuses leads procs fit =
-      subst (Leads book (rest_of qs n q us)) (sym (answered_is t (said (name_answer r)) is ∙ refused_step r))
+      noted_now (subst (Leads book (rest_of qs n q us)) (sym (answered_is t (said (name_answer r)) is ∙ refused_step r))
       (leads_by book k qs n now x q a us k.server.temps k.server.index (Walked r) g (same_temps book k n x q a (Walked r) h g.kept.shelf (λ uncut. tt) (λ uncut vs e. held_still book k qs n now x q a us g (Walked r) tt tt uncut vs e) (ap (λ p. program.Nfs p) procs) fit
       (λ uncut. walk_came book (onward book 1 book.ops) k qs n now x q lbfs xid w us h.seat r g.kept h.owner (h.here uncut).0 (h.talk uncut) g.first g.noted (sent t (said (name_answer r)) r is refl) refl refl
-      (λ j o at is there. (o, there, refl, refl, inr (inl (record { making = making; why = s; why_is = why; refuses = refuses; leads = leads; unmade = unmade uncut j o at there })))))))
+      (λ j o at is there. (o, there, refl, refl, inr (inl (record { making = making; why = s; why_is = why; refuses = refuses; leads = leads; unmade = unmade uncut j o at there }))))))))
 
   step_now : k.steps + 1 ≤ book.steps + 1
   step_now = let e = g.kept.steps in omega (arith, e)
@@ -231,8 +236,8 @@ module _ (laws : FitLaws) (book : Book) (k : Core) (qs : List Queue) (n now : �
       let z : TakenCall = record { xid = xid; step = book.steps + 1 } in
       let finds = finds_more x.taken z in
       let entries : more.entries ≡ k.entries ++ replicate (length es) (k.steps + 1) = ap (λ (l : List ℕ). l ++ replicate (length es) (book.steps + 1)) g.kept.entries ∙ ap (λ (s : ℕ). k.entries ++ replicate (length es) (s + 1)) g.kept.steps in
-      subst (Leads book (rest_of qs n q us)) (sym (answered_is after d is ∙ now_step after done r first second))
-      (leads_entered book more k qs n leasing after (k.server.journal ++ es) k.ops (k.entries ++ replicate (length es) (k.steps + 1)) x q a us (Walked r) None g.kept g.at g.is g.first g.unhung refl refl (ap (λ s. s + 1) g.kept.steps) g.kept.ops entries (record {
+      noted_now (subst (Leads book (rest_of qs n q us)) (sym (answered_is after d is ∙ now_step after done r first second))
+      (leads_entered book more k qs n leasing after (k.server.journal ++ es) k.ops (k.entries ++ replicate (length es) (k.steps + 1)) x q a us (Walked r) None g.kept g.at g.is g.owned g.first g.unhung refl refl (ap (λ s. s + 1) g.kept.steps) g.kept.ops entries (record {
         goes = goes_named book es (names_none n done.first done.second first second) g.kept.sound;
         server = server_named after done step files none root next;
         journal_is = ap (λ (l : List Entry). l ++ es) g.kept.journal;
@@ -267,7 +272,7 @@ module _ (laws : FitLaws) (book : Book) (k : Core) (qs : List Queue) (n now : �
         wanted = λ uncut. tt;
         held = λ uncut. held_still book k qs n now x q a us g (Walked r) tt tt uncut us g.first;
         running = g.kept.running;
-      }))
+      })))
 
   -- ---- it comes to wait
 
@@ -302,7 +307,7 @@ module _ (laws : FitLaws) (book : Book) (k : Core) (qs : List Queue) (n now : �
       }
 
   serve_waits : (b : Asked) (f : File) → comes_by t held busy w.dir w.goal ≡ (t, Waits b) → AsksFor w b → the_files.file_at t (file_of b) ≡ Some f → t.changes + server.entries_held k.server.waiting + entries_of b ≤ 4294967295 → AreTwo b → Leads book (rest_of qs n q us) (happens k (Serves n now (message_spell (ask_message a))))
-  serve_waits b f is asks there room_left two = subst (Leads book (rest_of qs n q us)) (sym (waits_is b is)) (leads_coming book k qs n now x q a us k.server.temps (coming n xid b) g (comes_waiting b f asks there room_left two))
+  serve_waits b f is asks there room_left two = noted_now (subst (Leads book (rest_of qs n q us)) (sym (waits_is b is)) (leads_coming book k qs n now x q a us k.server.temps (coming n xid b) g (comes_waiting b f asks there room_left two)))
 
   -- ---- any of them
 

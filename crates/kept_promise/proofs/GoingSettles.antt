@@ -14,7 +14,7 @@ use Rattle.server_core.specs.declared.change.Wanted.TheVariants as wanted
 use Rattle.client_state.specs.State as client
 use Rattle.client_state.specs.declared.task.Stage.TheVariants as stage
 use Rattle.register_model.specs.declared.op.Outcome.TheVariants as told
-use Rattle.kept_promise.proofs.Common.{slice_get, Contains, MessageFits, FileChange, Entry, Op, Core, Seat, Session, Event.Settles, numbered, with_numbered, happens, unless, hashed_of, Book, Reply.Walked, NameReply, name_answer, Told, Queue, told_message, Reply, Indexed, Leasing, later}
+use Rattle.kept_promise.proofs.Common.{slice_get, Contains, MessageFits, FileChange, Entry, Op, Core, Seat, Session, Event.Settles, numbered, with_numbered, happens, unless, hashed_of, Book, Reply.Walked, NameReply, name_answer, Told, Queue, told_message, Reply, Indexed, Leasing, later, is_raw}
 use Rattle.kept_promise.proofs.Tells.{came_told}
 use Rattle.kept_promise.proofs.Orderly.{Wanted}
 use Rattle.kept_promise.proofs.Lists.{some_is, nothing_there, true_and_false, all_append, all_unless}
@@ -91,12 +91,12 @@ pub record ShowsTold (book more : Book) (k : Core) (c : FileChange) (x : Session
   pub running : (p : ℕ) (o : Op) → slice_get more.ops p ≡ Some o → o.outcome ≡ told.Running → (e : Seat) × (j : Job) × (numbered k.seats o.client ≡ Some e) × (job e ≡ Some j) × (j.place ≡ p)
 
 module _ (book more : Book) (k : Core) (qs : List Queue) (now : ℕ) (c : FileChange) (cs : List FileChange) (x : Session) (q : Queue) (leasing : Leasing) (tree : Tree) (journal : List Entry) (index : Indexed) (r : Reply) (made : Option ℕ)
-    (kept : IsKept book k qs) (out : IsOut k.server.waiting c cs) (here : numbered k.sessions c.session ≡ Some x) (is : numbered qs c.session ≡ Some q) (shows : ShowsTold book more k c x q (record (settled_server k.server now cs tree journal) { leasing = leasing; index = index }) r made (kept.sessions c.session x q here is)) where
+    (kept : IsKept book k qs) (out : IsOut k.server.waiting c cs) (here : numbered k.sessions c.session ≡ Some x) (is : numbered qs c.session ≡ Some q) (owned : is_raw x ≡ false) (shows : ShowsTold book more k c x q (record (settled_server k.server now cs tree journal) { leasing = leasing; index = index }) r made (kept.sessions c.session x q here is owned)) where
   abbrev n : ℕ
   n = c.session
 
   abbrev h : IsSession book k.seats k.server n x q
-  h = kept.sessions n x q here is
+  h = kept.sessions n x q here is owned
 
   abbrev t : Told
   t = record { xid = c.xid; reply = r }
@@ -198,10 +198,10 @@ pub record ShowsSettled (book more : Book) (k : Core) (now : ℕ) (c : FileChang
   pub running : (p : ℕ) (o : Op) → slice_get more.ops p ≡ Some o → o.outcome ≡ told.Running → (e : Seat) × (j : Job) × (numbered k.seats o.client ≡ Some e) × (job e ≡ Some j) × (j.place ≡ p)
 
 module _ (book more : Book) (k : Core) (qs : List Queue) (now : ℕ) (c : FileChange) (cs : List FileChange) (a : Asked) (x : Session) (q : Queue) (tree : Tree) (journal : List Entry) (r : NameReply) (made : Option ℕ)
-    (kept : IsKept book k qs) (out : IsOut k.server.waiting c cs) (here : numbered k.sessions c.session ≡ Some x) (unhung : x.hung ≡ false) (is : numbered qs c.session ≡ Some q)
-    (pending : IsGoing book c.session x.closing x.cut (job (kept.sessions c.session x q here is).seat) c.xid a) (shows : ShowsSettled book more k now c cs x q tree journal r made (kept.sessions c.session x q here is)) where
+    (kept : IsKept book k qs) (out : IsOut k.server.waiting c cs) (here : numbered k.sessions c.session ≡ Some x) (unhung : x.hung ≡ false) (is : numbered qs c.session ≡ Some q) (owned : is_raw x ≡ false)
+    (pending : IsGoing book c.session x.closing x.cut (job (kept.sessions c.session x q here is owned).seat) c.xid a) (shows : ShowsSettled book more k now c cs x q tree journal r made (kept.sessions c.session x q here is owned)) where
   abbrev its : IsSession book k.seats k.server c.session x q
-  its = kept.sessions c.session x q here is
+  its = kept.sessions c.session x q here is owned
 
   -- its client waits for it
   waits_here : x.cut ≡ false → (j : Job) → job its.seat ≡ Some j → j.stage ≡ stage.Walking c.xid (walk_for a)
@@ -210,7 +210,7 @@ module _ (book more : Book) (k : Core) (qs : List Queue) (now : ℕ) (c : FileCh
       ap (λ (z : Job). z.stage) (some_is j (record { place = pending.place; file = 0; stage = stage.Walking c.xid w.0 }) (sym at ∙ w.1)) ∙ ap (stage.Walking c.xid) (walk_is w.0 a w.2)
 
   pub kept_settled : IsKept more (turned_core k more (settled_server k.server now cs tree journal) k.seats k.sessions) (with_numbered qs c.session (record q { downs = unless x.cut q.downs (record { xid = c.xid; reply = Walked r } ∷ []) }))
-  kept_settled = kept_told book more k qs now c cs x q (later k.server.leasing now) tree journal k.server.index (Walked r) made kept out here is (record {
+  kept_settled = kept_told book more k qs now c cs x q (later k.server.leasing now) tree journal k.server.index (Walked r) made kept out here is owned (record {
     goes = shows.goes;
     server = shows.server;
     journal_is = shows.journal_is;

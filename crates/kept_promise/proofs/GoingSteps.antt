@@ -23,6 +23,7 @@ use Rattle.kept_promise.proofs.Common.{Op, FileChange, at, has_waiting, got_if, 
 use Rattle.kept_promise.proofs.PathNames.{IsWalkSmall, is_going}
 use Rattle.kept_promise.proofs.Departures.{comes_by, called_going}
 use Rattle.kept_promise.proofs.ServesFiles.{making_got, count_is, newest_more, none_newest, pointed_none}
+use Rattle.kept_promise.proofs.Turns.{unnoted}
 
 -- what the server did, and what is noted of it
 did : Core → (n : ℕ) → Session → (xid : ℕ) → server.State × ServerStep → CoreStep
@@ -51,20 +52,20 @@ waits_got k n now x xid a =
 abbrev going_did : Core → (n now : ℕ) → Session → (xid : ℕ) → Tree × Outcome → CoreStep
 going_did k n now x xid p = did k n x xid (asks_tree (at k.server now) n xid (some p))
 
-got_going : (k : Core) (n now : ℕ) (x : Session) (xid : ℕ) (w : Walk) → IsWalkSmall w → is_going w ≡ true → stands k.server n ≡ true → server_got k n now x (message.Call xid (body.Nfs (next_call w))) ≡ going_did k n now x xid (comes_by k.server.tree (server.held k.server.waiting) (has_waiting k.server.waiting n) w.dir w.goal)
+got_going : (k : Core) (n now : ℕ) (x : Session) (xid : ℕ) (w : Walk) → IsWalkSmall w → is_going w ≡ true → stands k.server n ≡ true → unnoted k (server_got k n now x (message.Call xid (body.Nfs (next_call w)))) ≡ going_did k n now x xid (comes_by k.server.tree (server.held k.server.waiting) (has_waiting k.server.waiting n) w.dir w.goal)
 unfolding did
 got_going k n now x xid w small going standing =
     ap (λ (b : Bool). did k n x xid (got_if k.server b n (message.Call xid (body.Nfs (next_call w))) now)) standing
     ∙ ap (did k n x xid) (called_going (at k.server now) n xid w small going)
 
-pub got_answered : (k : Core) (n now : ℕ) (x : Session) (xid : ℕ) (w : Walk) (after : Tree) (d : Done) → IsWalkSmall w → is_going w ≡ true → stands k.server n ≡ true → comes_by k.server.tree (server.held k.server.waiting) (has_waiting k.server.waiting n) w.dir w.goal ≡ (after, Answered d) → server_got k n now x (message.Call xid (body.Nfs (next_call w))) ≡ making_got k n now x xid (after, d)
+pub got_answered : (k : Core) (n now : ℕ) (x : Session) (xid : ℕ) (w : Walk) (after : Tree) (d : Done) → IsWalkSmall w → is_going w ≡ true → stands k.server n ≡ true → comes_by k.server.tree (server.held k.server.waiting) (has_waiting k.server.waiting n) w.dir w.goal ≡ (after, Answered d) → unnoted k (server_got k n now x (message.Call xid (body.Nfs (next_call w)))) ≡ making_got k n now x xid (after, d)
 unfolding did
 got_answered k n now x xid w after d small going standing is =
     got_going k n now x xid w small going standing
     ∙ ap (going_did k n now x xid) is
     ∙ ap (λ (l : List Entry). record (making_got k n now x xid (after, d)) { core = record (making_got k n now x xid (after, d)).core { ops = pointed_at k.ops x.closing (k.steps + 1) (changed_file l) } }) (newest_more k.server.journal (entries_by n d.first d.second) (count_of d.first d.second) (count_is n d.first d.second))
 
-pub got_waits : (k : Core) (n now : ℕ) (x : Session) (xid : ℕ) (w : Walk) (a : Asked) → IsWalkSmall w → is_going w ≡ true → stands k.server n ≡ true → comes_by k.server.tree (server.held k.server.waiting) (has_waiting k.server.waiting n) w.dir w.goal ≡ (k.server.tree, Waits a) → server_got k n now x (message.Call xid (body.Nfs (next_call w))) ≡ waits_got k n now x xid a
+pub got_waits : (k : Core) (n now : ℕ) (x : Session) (xid : ℕ) (w : Walk) (a : Asked) → IsWalkSmall w → is_going w ≡ true → stands k.server n ≡ true → comes_by k.server.tree (server.held k.server.waiting) (has_waiting k.server.waiting n) w.dir w.goal ≡ (k.server.tree, Waits a) → unnoted k (server_got k n now x (message.Call xid (body.Nfs (next_call w)))) ≡ waits_got k n now x xid a
 unfolding did
 got_waits k n now x xid w a small going standing is =
     got_going k n now x xid w small going standing

@@ -6,13 +6,15 @@ use Rattle.hash_calls.specs.declared.message.Lb.TheVariants as lb
 use Rattle.wire.specs.declared.message.Body.TheVariants as body
 use Rattle.register_model.specs.declared.op.Outcome.TheVariants as told
 use Rattle.register_model.specs.declared.op.Word.TheVariants as words
+use Rattle.register_model.specs.declared.raw.Raw.{Raw}
+use Rattle.register_model.specs.Raw.{op_of}
 use Rattle.trace_replay.specs.Book.{first_version}
 use Rattle.register_model.specs.Register.{changes, IsFit}
 use Rattle.trace_replay.specs.OwnCalls.{WaitsFor, TakesCall}
 use Rattle.kept_promise.proofs.Common.{handle_bytes, step_of, Body, slice_get, bytes_eq, Contains, sha1, Entry, File, Value, content_of, Op, Opening, Word, Moment, hashed_of, Book, Or, Collides, history, value_at, version_at, Tried}
 use Rattle.kept_promise.proofs.Lists.{false_and_true}
 use Rattle.kept_promise.proofs.Marks.{Mark, marks, latest_mark, left_by, value_is, count_is}
-use Rattle.kept_promise.proofs.Rights.{IsEnteredIf, WasThere, gets_file, Caused, WasWalk, RefusedBy, DoneBy, IsRight, IsUnmade, IsMade, IsHeld, IsFitted}
+use Rattle.kept_promise.proofs.Rights.{IsEnteredIf, WasThere, gets_file, Caused, WasWalk, RefusedBy, DoneBy, IsRight, IsUnmade, IsMade, IsHeld, IsFitted, IsStranger}
 
 -- what becomes of an operation; at most one is made, and at most one goes on, or ends, by a step of its client
 pub record Follows (book : Book) (made ended : Option ℕ) (k : ℕ) (o r : Op) : Type 0 where
@@ -45,7 +47,9 @@ pub record Grows (book more : Book) (made ended : Option ℕ) : Type 0 where
   pub steps_kept : (j p : ℕ) → slice_get book.entries j ≡ Some p → slice_get more.entries j ≡ Some p
   pub entries_new : (j p : ℕ) → slice_get more.entries j ≡ Some p → (slice_get book.entries j ≡ Some p) ⊎ (book.steps < p)
   pub journal_kept : (j : ℕ) (e : Entry) → slice_get book.journal j ≡ Some e → slice_get more.journal j ≡ Some e
-  pub values : (f p : ℕ) → p ≤ book.steps + 1 → marks f p more.ops ≡ marks f p book.ops
+  pub values : (f p : ℕ) → p ≤ book.steps + 1 → marks f p (history more).ops ≡ marks f p (history book).ops
+  -- each change of others is still there
+  pub raws_kept : (j : ℕ) (r : Raw) → slice_get book.raws j ≡ Some r → slice_get more.raws j ≡ Some r
   pub each : (k : ℕ) (o : Op) → slice_get book.ops k ≡ Some o → (r : Op) × (slice_get more.ops k ≡ Some r) × Follows book made ended k o r
 
 -- ---- values and versions
@@ -53,18 +57,18 @@ pub record Grows (book more : Book) (made ended : Option ℕ) : Type 0 where
 abbrev pub seen_in : List Opening → (file : ℕ) → List Mark → Value
 seen_in opening f ms = left_by (content_of opening f) (latest_mark ms)
 
-pub value_seen : (book : Book) (f p : ℕ) → value_at book f p ≡ seen_in book.opening f (marks f p book.ops)
+pub value_seen : (book : Book) (f p : ℕ) → value_at book f p ≡ seen_in book.opening f (marks f p (history book).ops)
 value_seen book f p = value_is (history book) f p
 
-pub version_seen : (book : Book) (f p : ℕ) → version_at book f p ≡ length (marks f p book.ops) + first_version (content_of book.opening f)
-version_seen book f p = ap (λ n. n + first_version (content_of book.opening f)) (sym (count_is f p book.ops))
+pub version_seen : (book : Book) (f p : ℕ) → version_at book f p ≡ length (marks f p (history book).ops) + first_version (content_of book.opening f)
+version_seen book f p = ap (λ n. n + first_version (content_of book.opening f)) (sym (count_is f p (history book).ops))
 
 -- the same marks at two moments, of two books
-pub value_alike : (book more : Book) (f p q : ℕ) → more.opening ≡ book.opening → marks f p more.ops ≡ marks f q book.ops → value_at more f p ≡ value_at book f q
-value_alike book more f p q o e = value_seen more f p ∙ ap (λ l. seen_in l f (marks f p more.ops)) o ∙ ap (seen_in book.opening f) e ∙ sym (value_seen book f q)
+pub value_alike : (book more : Book) (f p q : ℕ) → more.opening ≡ book.opening → marks f p (history more).ops ≡ marks f q (history book).ops → value_at more f p ≡ value_at book f q
+value_alike book more f p q o e = value_seen more f p ∙ ap (λ l. seen_in l f (marks f p (history more).ops)) o ∙ ap (seen_in book.opening f) e ∙ sym (value_seen book f q)
 
-pub version_alike : (book more : Book) (f p q : ℕ) → more.opening ≡ book.opening → marks f p more.ops ≡ marks f q book.ops → version_at more f p ≡ version_at book f q
-version_alike book more f p q o e = version_seen more f p ∙ ap (λ (l : List Opening). length (marks f p more.ops) + first_version (content_of l f)) o ∙ ap (λ ms. length ms + first_version (content_of book.opening f)) e ∙ sym (version_seen book f q)
+pub version_alike : (book more : Book) (f p q : ℕ) → more.opening ≡ book.opening → marks f p (history more).ops ≡ marks f q (history book).ops → version_at more f p ≡ version_at book f q
+version_alike book more f p q o e = version_seen more f p ∙ ap (λ (l : List Opening). length (marks f p (history more).ops) + first_version (content_of l f)) o ∙ ap (λ ms. length ms + first_version (content_of book.opening f)) e ∙ sym (version_seen book f q)
 
 pub value_later : (book more : Book) (made ended : Option ℕ) (f p : ℕ) → Grows book more made ended → p ≤ book.steps + 1 → value_at more f p ≡ value_at book f p
 value_later book more made ended f p g le = value_alike book more f p p g.opening (g.values f p le)
@@ -226,6 +230,18 @@ fitted_later book more made ended o r g word same right h c p e =
       subst (λ (f : ℕ). 1 < f) (sym s.0) was.0,
       subst (λ (w : Word). IsFit w (value_at more r.file p)) (sym word) (subst (λ (f : ℕ). IsFit o.word (value_at more f p)) (sym s.0) (subst (IsFit o.word) (sym (value_later book more made ended o.file p g (omega (arith, b)))) was.1)),
     )
+
+-- a change of others stays as it is
+pub stranger_later : (book more : Book) (made ended : Option ℕ) (r : Raw) → Grows book more made ended → IsStranger book r → IsStranger more r
+stranger_later book more made ended r g h =
+    let le = h.past in
+    let n = g.passes in
+    record {
+      order = h.order;
+      past = omega (arith, le, n);
+      positive = h.positive;
+      fit = subst (IsFit (op_of r).word) (sym (value_later book more made ended r.file r.point g (omega (arith, le)))) h.fit;
+    }
 
 pub made_later : (book more : Book) (made ended : Option ℕ) (place v : ℕ) → Grows book more made ended → IsMade book place v → IsMade more place v
 made_later book more made ended place v g h =

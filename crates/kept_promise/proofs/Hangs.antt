@@ -1,27 +1,30 @@
 -- The server sees a connection lost: what is on its way up goes, the session's temporary files, and its change that waits.
-use Rattle.std.proofs.Common.{inl, inr, ◌≡◌, ℕ, zero, suc, ◌+◌, ◌≤◌, List, [], ◌∷◌, ◌++◌, length, Option, Some, None, Bool, true, false, refl, sym, ap, ◌∙◌, subst, arith, eq-eqb, eqb-true, map}
+use Rattle.std.proofs.Common.{inl, inr, ◌≡◌, ℕ, zero, suc, ◌+◌, ◌≤◌, List, [], ◌∷◌, ◌++◌, length, Option, Some, None, Bool, true, false, refl, sym, ap, ◌∙◌, subst, arith, eq-eqb, eqb-true, map, ◌⊎◌}
 use Rattle.server_core.specs.State as server
 use Rattle.chunk_calls.specs.Files as the_files
 use Rattle.server_core.specs.Step.{hangs, hangs_if}
 use Rattle.server_core.specs.declared.event.Event.TheVariants as event
 use Rattle.client_state.specs.State as client
 use Rattle.trace_ends.specs.Core.{hangs_if as core_hangs_if, hangs as core_hangs}
-use Rattle.kept_promise.proofs.Common.{slice_get, not, cond, ◌==◌, filter, list_any, stands, server_step, FileChange, Op, Core, Seat, Session, quiet, numbered, with_numbered, Book, Ask, Queue, version_at}
+use Rattle.kept_promise.proofs.Common.{slice_get, not, cond, ◌==◌, filter, list_any, stands, server_step, FileChange, Op, Core, Seat, Session, quiet, numbered, with_numbered, Book, Ask, Queue, version_at, is_raw, CoreStep}
 use Rattle.kept_promise.proofs.Lists.{some_is, nothing_there, same_or_not, all_map}
 use Rattle.kept_promise.proofs.Keys.{times, times_append, own, on_way, change_key, ask_key, told_key, pending_key}
 use Rattle.kept_promise.proofs.Messages.{job, Rising, IsAnswer}
 use Rattle.kept_promise.proofs.History.{onward, grows_same, goes_same, still_same}
-use Rattle.kept_promise.proofs.Later.{answer_later, has_fetch_later, close_later, seat_later, Stays, Spares}
-use Rattle.kept_promise.proofs.Turns.{Around, around_same, around_with, also_numbered, turned_core, kept_turn}
+use Rattle.kept_promise.proofs.Later.{answer_later, has_fetch_later, close_later, seat_later, Stays, Spares, SameView}
+use Rattle.kept_promise.proofs.Turns.{Around, around_same, around_with, also_numbered, turned_core, kept_turn, raw_core, kept_raw_turn, raw_or_owned, with_same, kept_noted, unnoted, CameOn}
 use Rattle.kept_promise.proofs.Shelf.{shelf_left, else_left}
 use Rattle.kept_promise.proofs.Ordered.{orderly_hung}
 use Rattle.kept_promise.proofs.Facts.{FileIs, IsServer, IsTalk, IsKept}
-use Rattle.kept_promise.proofs.Leading.{Leads, ups_lost, KeptHangs}
+use Rattle.kept_promise.proofs.Leading.{Leads, ups_lost, KeptHangs, Sends, queues_after}
 use Rattle.kept_promise.proofs.Takes.{file_still, fresh_still}
 use Rattle.kept_promise.proofs.Chunks.{is_other}
 use Rattle.server_law.proofs.lemmas.TreeCalls.{fewer_need}
 use Rattle.kept_promise.proofs.Growth.{there_later}
 use Rattle.kept_promise.proofs.Unused.{IsUnused}
+use Rattle.register_model.specs.declared.raw.Raw.{Raw}
+use Rattle.kept_promise.proofs.RecallsKept.{OnlyRecalls, all_kept}
+use Rattle.callback_core.specs.BackCalls.{is_at}
 
 -- ---- what the server still has of other sessions
 
@@ -102,7 +105,7 @@ server_hung book s n kept held fresh = record {
   lengths = λ i c e. let r = left_there n s.waiting i c e in kept.lengths r.0.0 c r.0.1;
   targets = λ i c e. let r = left_there n s.waiting i c e in there_later book (onward book 1 book.ops) None None c.file (grows_same book 1) (kept.targets r.0.0 c r.0.1);
   xids = λ i c e. let r = left_there n s.waiting i c e in kept.xids r.0.0 c r.0.1;
-  leases = kept.leases;
+  leases = (kept.leases.0, all_kept (λ c. OnlyRecalls c.waits) (λ c. not (is_at n c)) s.leasing.calls kept.leases.1);
   serves = kept.serves;
 }
 
@@ -141,10 +144,21 @@ core_is book k qs r seats sessions h =
     ∙ ap (λ (o : List Op). record k { server = r; seats = seats; sessions = sessions; steps = k.steps + 1; ops = o; entries = book.entries }) h.ops
     ∙ ap (λ (e : List ℕ). record k { server = r; seats = seats; sessions = sessions; steps = k.steps + 1; ops = k.ops; entries = e }) h.entries
 
-hung_now : (book : Book) (k : Core) (qs : List Queue) (n : ℕ) (x : Session) (q : Queue) → (kept : IsKept book k qs) → numbered k.sessions n ≡ Some x → numbered qs n ≡ Some q → x.hung ≡ false
+-- what other sessions have there stays
+hung_view : (book : Book) (k : Core) (qs : List Queue) (n : ℕ) → IsKept book k qs → (o : ℕ) → (o ≡ n → ⊥) → SameView o k.server (hangs k.server n)
+hung_view book k qs n kept o apart = record { stands_is = stands_else o n apart k.server.sessions; waiting = own_else o n apart k.server.waiting; temps = λ i m e lt f g. was_there (λ z. not (z.1.session == n)) k.server.temps i e f; found = λ m lt. else_left k.server.temps n o m apart lt kept.shelf.1 }
+
+pub raw_core_is : (book : Book) (k : Core) (qs : List Queue) (r : server.State) (sessions : List Session) → IsKept book k qs → raw_core k (onward book 1 book.ops) r sessions ≡ record k { server = r; seats = k.seats; sessions = sessions; steps = k.steps + 1; ops = k.ops; entries = k.entries }
+raw_core_is book k qs r sessions h =
+    ap (λ (s : ℕ). record k { server = r; sessions = sessions; steps = s + 1; ops = book.ops; entries = book.entries; raws = book.raws }) h.steps
+    ∙ ap (λ (o : List Op). record k { server = r; sessions = sessions; steps = k.steps + 1; ops = o; entries = book.entries; raws = book.raws }) h.ops
+    ∙ ap (λ (e : List ℕ). record k { server = r; sessions = sessions; steps = k.steps + 1; ops = k.ops; entries = e; raws = book.raws }) h.entries
+    ∙ ap (λ (l : List Raw). record k { server = r; sessions = sessions; steps = k.steps + 1; ops = k.ops; entries = k.entries; raws = l }) h.raws
+
+hung_now : (book : Book) (k : Core) (qs : List Queue) (n : ℕ) (x : Session) (q : Queue) → (kept : IsKept book k qs) → numbered k.sessions n ≡ Some x → numbered qs n ≡ Some q → is_raw x ≡ false → x.hung ≡ false
     → IsKept (onward book 1 book.ops) (turned_core k (onward book 1 book.ops) (hangs k.server n) k.seats (with_numbered k.sessions n (record x { hung = true }))) (with_numbered qs n (record q { ups = [] }))
-hung_now book k qs n x q kept at is unhung =
-    let h = kept.sessions n x q at is in
+hung_now book k qs n x q kept at is owned unhung =
+    let h = kept.sessions n x q at is owned in
     let more = onward book 1 book.ops in
     let g = grows_same book 1 in
     let y : Session = record x { hung = true } in
@@ -165,7 +179,7 @@ hung_now book k qs n x q kept at is unhung =
       goes = goes_same book 1 kept.sound;
       server = server_hung book k.server n kept.server (λ f. file_still book more None None f (the_files.file_at k.server.tree f) g (still_same book 1 kept.sound) (kept.server.held f)) (fresh_still book more None None k.server.tree g (still_same book 1 kept.sound) kept.server.fresh);
       sessions_made = refl;
-      view = λ o apart. record { stands_is = stands_else o n apart k.server.sessions; waiting = own_else o n apart k.server.waiting; temps = λ i m e lt f g. was_there (λ z. not (z.1.session == n)) k.server.temps i e f; found = λ m lt. else_left k.server.temps n o m apart lt kept.shelf.1 };
+      view = λ o apart. hung_view book k qs n kept o apart;
       elsewhere = inl refl;
       closing = λ z f. inl f;
       made_here = λ z f. nothing_there z f;
@@ -207,26 +221,78 @@ hung_now book k qs n x q kept at is unhung =
           (record x { hung = true }, ap (numbered (with_numbered k.sessions n (record x { hung = true }))) here ∙ around.there, ap (λ (v : Session). v.owner) same, λ mine. ap (λ (v : Session). v.cut) same)
     ]
 
+-- one that is no client's: what it had at the server goes
+raw_hung : (book : Book) (k : Core) (qs : List Queue) (n : ℕ) (x : Session) → IsKept book k qs → numbered k.sessions n ≡ Some x → is_raw x ≡ true
+    → IsKept (onward book 1 book.ops) (raw_core k (onward book 1 book.ops) (hangs k.server n) (with_numbered k.sessions n (record x { hung = true }))) qs
+raw_hung book k qs n x kept at raw =
+    let more = onward book 1 book.ops in
+    let g = grows_same book 1 in
+    let y : Session = record x { hung = true } in
+    let r = hangs k.server n in
+    let sessions = with_numbered k.sessions n y in
+    let around = around_with k.sessions n x y at in
+    let none : own n r.waiting ≡ [] = own_gone n k.server.waiting in
+    kept_raw_turn book more k qs r sessions n x y (record {
+      at = at;
+      raw = raw;
+      around = around;
+      owner = refl;
+      grows = g;
+      sound = (goes_same book 1 kept.sound).sound;
+      ops = refl;
+      server = server_hung book k.server n kept.server (λ f. file_still book more None None f (the_files.file_at k.server.tree f) g (still_same book 1 kept.sound) (kept.server.held f)) (fresh_still book more None None k.server.tree g (still_same book 1 kept.sound) kept.server.fresh);
+      sessions_made = refl;
+      view = λ o apart. hung_view book k qs n kept o apart;
+      session = λ q is. let h = kept.strangers n x q at is raw in record {
+        shut = h.shut;
+        closing = h.closing;
+        ups = h.ups;
+        downs = h.downs;
+        stands_is = stands_gone n k.server.sessions;
+        temps = λ i m e lt f g. let w = was_there (λ z. not (z.1.session == n)) k.server.temps i e f in h.temps w.0 m e lt w.1 g;
+        single = let l = ap length none in omega (arith, l);
+      };
+      shelf = shelf_left k.server.temps n kept.shelf;
+      home = λ i d f. let l = left_there n k.server.waiting i d f in let z = kept.home l.0.0 d l.0.1 in (z.0, around.others d.session l.1 ∙ z.1, z.2);
+    }) kept.journal kept
+
+-- what a step leads to, with what is noted beside it of messages that came
+pub leads_noted : (book : Book) (k : Core) (qs : List Queue) (t : CoreStep) → t.core.raws ≡ k.raws → CameOn k.came t.core.came t.core.steps → Leads book qs (unnoted k t) → Leads book qs t
+leads_noted book k qs t raws on h = record { sends = sends; more = h.more; moments = h.moments; opening = h.opening; kept = kept_noted h.more t.core (queues_after qs t sends) k.came k.raws raws on h.kept }
+  where
+    sends : Sends t
+    sends = record { replies = h.sends.replies; replies_fit = h.sends.replies_fit; asks = h.sends.asks; up_is = h.sends.up_is; strays = h.sends.strays; strays_cut = h.sends.strays_cut; recalls = h.sends.recalls; recalls_fit = h.sends.recalls_fit; tolds = h.sends.tolds; down_is = h.sends.down_is }
+
 -- nothing is done, and nothing sent
 pub leads_quiet : (book : Book) (k : Core) (qs : List Queue) → IsKept book k qs → Leads book qs (quiet k)
-leads_quiet book k qs kept = record { sends = record { replies = []; replies_fit = tt; asks = []; up_is = refl; recalls = []; recalls_fit = tt; tolds = []; down_is = refl }; more = book; moments = refl; opening = refl; kept = kept }
+leads_quiet book k qs kept = record { sends = record { replies = []; replies_fit = tt; asks = []; up_is = refl; strays = []; strays_cut = tt; recalls = []; recalls_fit = tt; tolds = []; down_is = refl }; more = book; moments = refl; opening = refl; kept = kept }
 
-leads_hung : (book : Book) (k : Core) (qs : List Queue) (n : ℕ) (x : Session) (q : Queue) → IsKept book k qs → numbered k.sessions n ≡ Some x → numbered qs n ≡ Some q → (hung : Bool) → x.hung ≡ hung → Leads book qs (core_hangs_if k n x hung)
+pub leads_hung : (book : Book) (k : Core) (qs : List Queue) (n : ℕ) (x : Session) (q : Queue) → IsKept book k qs → numbered k.sessions n ≡ Some x → numbered qs n ≡ Some q → (hung : Bool) → x.hung ≡ hung → Leads book qs (core_hangs_if k n x hung)
 leads_hung book k qs n x q kept at is true e = leads_quiet book k qs kept
 leads_hung book k qs n x q kept at is false e =
-    let h = kept.sessions n x q at is in
-    let stands_is : stands k.server n ≡ true = h.stands_is ∙ ap not e in
+    let stands_is : stands k.server n ≡ true = stands_unless n x q at is (raw_or_owned x) ∙ ap not e in
     let r : (server_step k.server (event.Hang n)).0 ≡ hangs k.server n = ap (λ (b : Bool). (hangs_if k.server b n).0) stands_is in
     let sessions = with_numbered k.sessions n (record x { hung = true }) in
-    let now = subst (λ (z : Core). IsKept (onward book 1 book.ops) z (with_numbered qs n (record q { ups = [] }))) (core_is book k qs (hangs k.server n) k.seats sessions kept) (hung_now book k qs n x q kept at is e) in
+    let now : IsKept (onward book 1 book.ops) (record k { server = hangs k.server n; seats = k.seats; sessions = sessions; steps = k.steps + 1; ops = k.ops; entries = k.entries }) (with_numbered qs n (record q { ups = [] })) = elim (raw_or_owned x) [
+      | inr owned ↦ subst (λ (z : Core). IsKept (onward book 1 book.ops) z (with_numbered qs n (record q { ups = [] }))) (core_is book k qs (hangs k.server n) k.seats sessions kept) (hung_now book k qs n x q kept at is owned e)
+      | inl raw ↦
+          let none = (kept.strangers n x q at is raw).ups in
+          let same : with_numbered qs n (record q { ups = [] }) ≡ qs = ap (λ (us : List Ask). with_numbered qs n (record q { ups = us })) (sym none) ∙ with_same qs n q is in
+          subst (IsKept (onward book 1 book.ops) (record k { server = hangs k.server n; seats = k.seats; sessions = sessions; steps = k.steps + 1; ops = k.ops; entries = k.entries })) (sym same)
+          (subst (λ (z : Core). IsKept (onward book 1 book.ops) z qs) (raw_core_is book k qs (hangs k.server n) sessions kept) (raw_hung book k qs n x kept at raw))
+    ] in
     let with_server = subst (λ (z : server.State). IsKept (onward book 1 book.ops) (record k { server = z; seats = k.seats; sessions = sessions; steps = k.steps + 1; ops = k.ops; entries = k.entries }) (with_numbered qs n (record q { ups = [] }))) (sym r) now in
     record {
-      sends = record { replies = []; replies_fit = tt; asks = []; up_is = refl; recalls = []; recalls_fit = tt; tolds = []; down_is = refl };
+      sends = record { replies = []; replies_fit = tt; asks = []; up_is = refl; strays = []; strays_cut = tt; recalls = []; recalls_fit = tt; tolds = []; down_is = refl };
       more = onward book 1 book.ops;
       moments = refl;
       opening = refl;
       kept = subst (λ (o : Option Queue). IsKept (onward book 1 book.ops) (record k { server = (server_step k.server (event.Hang n)).0; seats = k.seats; sessions = sessions; steps = k.steps + 1; ops = k.ops; entries = k.entries }) (ups_lost qs n o)) (sym is) with_server;
     }
+  where
+    stands_unless : (n : ℕ) (x : Session) (q : Queue) → numbered k.sessions n ≡ Some x → numbered qs n ≡ Some q → (is_raw x ≡ true) ⊎ (is_raw x ≡ false) → stands k.server n ≡ not x.hung
+    stands_unless n x q at is (inr owned) = (kept.sessions n x q at is owned).stands_is
+    stands_unless n x q at is (inl raw) = (kept.strangers n x q at is raw).stands_is
 
 pub kept_hangs : KeptHangs
 kept_hangs = λ book k qs n kept noted. by book k qs n kept (numbered k.sessions n) refl

@@ -2,7 +2,7 @@
 use Rattle.std.proofs.Common.{inl, inr, ◌≡◌, ℕ, zero, suc, ◌+◌, ◌<◌, ◌≤◌, List, [], ◌∷◌, ◌++◌, length, Option, Some, Bool, true, false, refl, sym, ap, ◌∙◌, subst, arith, eqb-true, ne_eqb, map}
 use Rattle.client_state.specs.State as client
 use Rattle.register_model.specs.declared.op.Outcome.TheVariants as told
-use Rattle.kept_promise.proofs.Common.{nat_tests, slice_get, cond, ◌==◌, nat_le, MessageFits, Pending, FileChange, Op, Core, Seat, Session, numbered, unless, hashed_of, Book, Call, Call.Commit, Call.Walks, Ask, Told, Queue, told_message, call_program, reply_program}
+use Rattle.kept_promise.proofs.Common.{nat_tests, slice_get, cond, ◌==◌, nat_le, MessageFits, Pending, FileChange, Op, Core, Seat, Session, numbered, unless, hashed_of, Book, Call, Call.Commit, Call.Walks, Ask, Told, Queue, told_message, call_program, reply_program, is_raw}
 use Rattle.kept_promise.proofs.Statements.{ToldFits, CallFits}
 use Rattle.kept_promise.proofs.Keys.{times, times_append, own, on_way, change_key, ask_key, told_key, pending_key, IsOurs, call_ours, found_by, there_by, key_code}
 use Rattle.kept_promise.proofs.Messages.{Job, job, job_of, AllAsks, AllTolds, Rising, IsAsked, IsAnswer, HasFetch, IsCommit, IsPiece, WaitsFor, TempUnder, CloseOf}
@@ -164,12 +164,12 @@ balanced_heard n w q hung next top calls after t ts asks e moves rising h = reco
         by zero e2 = let f = found_by ask_key asks (pending_key p) (omega (arith, e2, lt, m)) in let o = call_ours f.1.call in let c = key_code f.1.xid p.xid (call_program f.1.call) p.program f.3 in omega (arith, o, c)
 
 pub kept_heard : (book : Book) (ops : List Op) (k : Core) (qs : List Queue) (n : ℕ) (x : Session) (q : Queue) (t : Told) (ts : List Told) (c : client.State) (place : Option ℕ) (asks : List Ask) (made ended : Option ℕ) (seats : List Seat) (after : List Queue)
-    → (kept : IsKept book k qs) → (at : numbered k.sessions n ≡ Some x) → (is : numbered qs n ≡ Some q) → q.downs ≡ t ∷ ts → x.cut ≡ false
-    → Around k.seats seats x.owner (record (kept.sessions n x q at is).seat { client = c; place = place }) → Around qs after n (put_up q x.hung asks ts)
-    → Hearing book ops k n x q t ts c place asks made ended (kept.sessions n x q at is)
+    → (kept : IsKept book k qs) → (at : numbered k.sessions n ≡ Some x) → (is : numbered qs n ≡ Some q) → (owned : is_raw x ≡ false) → q.downs ≡ t ∷ ts → x.cut ≡ false
+    → Around k.seats seats x.owner (record (kept.sessions n x q at is owned).seat { client = c; place = place }) → Around qs after n (put_up q x.hung asks ts)
+    → Hearing book ops k n x q t ts c place asks made ended (kept.sessions n x q at is owned)
     → IsKept (onward book 1 ops) (turned_core k (onward book 1 ops) k.server seats k.sessions) after
-kept_heard book ops k qs n x q t ts c place asks made ended seats after kept at is e uncut around queues shows =
-    let h = kept.sessions n x q at is in
+kept_heard book ops k qs n x q t ts c place asks made ended seats after kept at is owned e uncut around queues shows =
+    let h = kept.sessions n x q at is owned in
     let more = onward book 1 ops in
     let d : Seat = record h.seat { client = c; place = place } in
     let first_down : (P : Told → Type 0) → AllTolds P q.downs → AllTolds P ts = λ P all. (subst (AllTolds P) e all).1 in

@@ -9,12 +9,12 @@ use Rattle.open_close.specs.Hashed.{client_hashed, message_compared, answer_comp
 use Rattle.file_open.specs.Looking.{reading_by, with_file, reading_if, reading, looked_by}
 use Rattle.client_state.specs.declared.task.Stage.TheVariants as stage
 use Rattle.trace_replay.specs.Trail.{heard_hashed, heard_hashed_if}
-use Rattle.kept_promise.proofs.Common.{place_after, ops_with, taken_of, session_of, with_numbered, Op, Contains-append_left, Contains-append_right, Contains-push, looked_up, slice_get, Contains, Chunk, Done, Piece, MessageFits, message_spell, parse_of, Message, Pending, WireFault, has_call, got_step, took_if, drops, took, idle, ClientStep, Fetch, ReadCall, Stage, Task, read_at, Core, Seat, Session, Event.Hears, CoreStep, numbered, is_newest, hears_if, hears_at, hears, acted, happens, owner_in, hashed_by, hashed_of, Book, Reply, Reply.Bytes, Told, Queue, reply_body, reply_program, told_message, Program}
+use Rattle.kept_promise.proofs.Common.{place_after, ops_with, taken_of, session_of, with_numbered, Op, Contains-append_left, Contains-append_right, Contains-push, looked_up, slice_get, Contains, Chunk, Done, Piece, MessageFits, message_spell, parse_of, Message, Pending, WireFault, has_call, got_step, took_if, drops, took, idle, ClientStep, Fetch, ReadCall, Stage, Task, read_at, Core, Seat, Session, Event.Hears, CoreStep, numbered, is_newest, hears_if, hears_at, hears, acted, happens, owner_in, hashed_by, hashed_of, Book, Reply, Reply.Bytes, Told, Queue, reply_body, reply_program, told_message, Program, is_raw}
 use Rattle.kept_promise.proofs.Lists.{some_is, nothing_there, false_and_true}
 use Rattle.kept_promise.proofs.Keys.{times, code_of}
 use Rattle.kept_promise.proofs.Messages.{Job, AllTolds, FetchOf}
 use Rattle.kept_promise.proofs.Taken.{times_map_append}
-use Rattle.kept_promise.proofs.Turns.{also_numbered, around_with}
+use Rattle.kept_promise.proofs.Turns.{also_numbered, around_with, owned_down}
 use Rattle.kept_promise.proofs.Fits.{FitLaws}
 use Rattle.kept_promise.proofs.Facts.{IsSession, IsMatched, IsKept}
 use Rattle.kept_promise.proofs.Heard.{told_pending}
@@ -118,7 +118,7 @@ Takes book k qs n x q t ts j g s = Heard book k qs n x q ts (session_at book k q
 -- a note of a lease is set, where the answer grants one
 noted_leads : (book : Book) (k : Core) (qs : List Queue) (i : ℕ) (seat : Seat) (r : client.State × ClientStep) (file version until : ℕ) → numbered k.seats i ≡ Some seat → Leads book qs (acted k i seat r.0 r.1) → Leads book qs (acted k i seat (record r.0 { cache = with_note r.0.cache file version until }) r.1)
 noted_leads book k qs i seat r file version until here led = record {
-  sends = record { replies = led.sends.replies; replies_fit = led.sends.replies_fit; asks = led.sends.asks; up_is = led.sends.up_is; recalls = led.sends.recalls; recalls_fit = led.sends.recalls_fit; tolds = led.sends.tolds; down_is = led.sends.down_is };
+  sends = record { replies = led.sends.replies; replies_fit = led.sends.replies_fit; asks = led.sends.asks; up_is = led.sends.up_is; strays = led.sends.strays; strays_cut = led.sends.strays_cut; recalls = led.sends.recalls; recalls_fit = led.sends.recalls_fit; tolds = led.sends.tolds; down_is = led.sends.down_is };
   more = led.more;
   moments = led.moments;
   opening = led.opening;
@@ -196,26 +196,26 @@ waited book k qs n x q t ts j g hashed acts task own = by j.stage refl
     by (stage.Walking y w) at = walked y w at
     by s at = subst (Takes book k qs n x q t ts j g) at (filed (subst IsOfFile (sym at) tt))
 
-hears_it : (book : Book) (k : Core) (qs : List Queue) (n : ℕ) (x : Session) (q : Queue) (t : Told) (ts : List Told) → (kept : IsKept book k qs) → (at : numbered k.sessions n ≡ Some x) → (is : numbered qs n ≡ Some q) → q.downs ≡ t ∷ ts → x.cut ≡ false → IsHashed book (kept.sessions n x q at is).seat t
-    → ((hears_by (kept.sessions n x q at is).seat.client (Ok (told_message t))).1.send ≡ [] → ActsAt book k x.owner (kept.sessions n x q at is).seat [])
-    → Heard book k qs n x q ts (kept.sessions n x q at is).seat (hears_by (kept.sessions n x q at is).seat.client (Ok (told_message t)))
-hears_it book k qs n x q t ts kept at is first uncut hashed acts = by h.seat.client.task refl (has_call (client.pending h.seat.client.task) t.xid) refl
+hears_it : (book : Book) (k : Core) (qs : List Queue) (n : ℕ) (x : Session) (q : Queue) (t : Told) (ts : List Told) → (kept : IsKept book k qs) → (at : numbered k.sessions n ≡ Some x) → (is : numbered qs n ≡ Some q) → (owned : is_raw x ≡ false) → q.downs ≡ t ∷ ts → x.cut ≡ false → IsHashed book (kept.sessions n x q at is owned).seat t
+    → ((hears_by (kept.sessions n x q at is owned).seat.client (Ok (told_message t))).1.send ≡ [] → ActsAt book k x.owner (kept.sessions n x q at is owned).seat [])
+    → Heard book k qs n x q ts (kept.sessions n x q at is owned).seat (hears_by (kept.sessions n x q at is owned).seat.client (Ok (told_message t)))
+hears_it book k qs n x q t ts kept at is owned first uncut hashed acts = by h.seat.client.task refl (has_call (client.pending h.seat.client.task) t.xid) refl
   where
     h : IsSession book k.seats k.server n x q
-    h = kept.sessions n x q at is
+    h = kept.sessions n x q at is owned
 
     forgotten : has_call (client.pending h.seat.client.task) t.xid ≡ false → (o : Option Task) → Heard book k qs n x q ts h.seat (drops h.seat.client o t.xid (has_call h.seat.client.forgotten t.xid))
     forgotten none o =
         let there = forgotten_there book k qs n x q t ts h first uncut none in
-        subst (λ (b : Bool). Heard book k qs n x q ts h.seat (drops h.seat.client o t.xid b)) (sym (has_there h.seat.client.forgotten there.0 (told_pending t) there.1)) (leads_drops book k qs n x q t ts kept at is first uncut none)
+        subst (λ (b : Bool). Heard book k qs n x q ts h.seat (drops h.seat.client o t.xid b)) (sym (has_there h.seat.client.forgotten there.0 (told_pending t) there.1)) (leads_drops book k qs n x q t ts kept at is owned first uncut none)
 
-    own : (u : Task) → h.seat.client.task ≡ Some u → has_call (client.pending (Some u)) t.xid ≡ true → IsMatched h.seat → Heard book k qs n x q ts h.seat (took (idle h.seat.client) (client.calls_of h.seat.client) u.file u.stage t.xid (reply_body t.reply))
-    own u task has (inl free) = nothing_there u (sym free.1 ∙ task)
-    own u task has (inr busy) =
+    mine : (u : Task) → h.seat.client.task ≡ Some u → has_call (client.pending (Some u)) t.xid ≡ true → IsMatched h.seat → Heard book k qs n x q ts h.seat (took (idle h.seat.client) (client.calls_of h.seat.client) u.file u.stage t.xid (reply_body t.reply))
+    mine u task has (inl free) = nothing_there u (sym free.1 ∙ task)
+    mine u task has (inr busy) =
         let j = busy.0 in
         let task_now = task_is h.seat j busy.1 in
         let same : record { file = j.file; stage = j.stage } ≡ u = some_is _ u (sym task_now ∙ task) in
-        let g : Here book k qs n x q t ts j = record { kept = kept; at = at; is = is; first = first; uncut = uncut; job_is = busy.1 } in
+        let g : Here book k qs n x q t ts j = record { kept = kept; at = at; is = is; owned = owned; first = first; uncut = uncut; job_is = busy.1 } in
         subst (λ (z : Task). Heard book k qs n x q ts h.seat (took (idle h.seat.client) (client.calls_of h.seat.client) z.file z.stage t.xid (reply_body t.reply))) same
         (waited book k qs n x q t ts j g hashed acts task_now (subst (λ (z : Task). has_call (client.pending (Some z)) t.xid ≡ true) (sym same) has))
 
@@ -223,7 +223,7 @@ hears_it book k qs n x q t ts kept at is first uncut hashed acts = by h.seat.cli
     by None task false has = forgotten has None
     by None task true has = absurd (false_and_true (has_call (client.pending None) t.xid) refl (ap (λ (o : Option Task). has_call (client.pending o) t.xid) (sym task) ∙ has))
     by (Some u) task false has = forgotten has (Some u)
-    by (Some u) task true has = own u task (ap (λ (o : Option Task). has_call (client.pending o) t.xid) (sym task) ∙ has) (kept.seats x.owner h.seat h.owner).matched
+    by (Some u) task true has = mine u task (ap (λ (o : Option Task). has_call (client.pending o) t.xid) (sym task) ∙ has) (kept.seats x.owner h.seat h.owner).matched
 
 -- ---- the event
 
@@ -236,9 +236,9 @@ uncut_by true downs t ts first shut = absurd (none (sym first ∙ shut refl))
     none e = absurd cc
 
 -- the reading of the client's clock comes first
-module _ (laws : FitLaws) (book : Book) (k : Core) (qs : List Queue) (n now : ℕ) (q : Queue) (t : Told) (ts : List Told) (kept : IsKept book k qs) (is : numbered qs n ≡ Some q) (first : q.downs ≡ t ∷ ts) (noted : IsNoted book k (Hears n now (bytes_of t))) (x : Session) (at : numbered k.sessions n ≡ Some x) where
+module _ (laws : FitLaws) (book : Book) (k : Core) (qs : List Queue) (n now : ℕ) (q : Queue) (t : Told) (ts : List Told) (kept : IsKept book k qs) (is : numbered qs n ≡ Some q) (first : q.downs ≡ t ∷ ts) (noted : IsNoted book k (Hears n now (bytes_of t))) (x : Session) (at : numbered k.sessions n ≡ Some x) (owned : is_raw x ≡ false) where
   abbrev h : IsSession book k.seats k.server n x q
-  h = kept.sessions n x q at is
+  h = kept.sessions n x q at is owned
 
   uncut : x.cut ≡ false
   uncut = uncut_by x.cut q.downs t ts first h.shut
@@ -261,8 +261,8 @@ module _ (laws : FitLaws) (book : Book) (k : Core) (qs : List Queue) (n now : �
   still : IsKept book ticked qs
   still = kept_one book k qs x.owner h.seat parts h.owner (kept.seats x.owner h.seat h.owner).kept kept
 
-  seat_is : (still.sessions n x q at is).seat ≡ tick
-  seat_is = some_is (still.sessions n x q at is).seat tick (sym (still.sessions n x q at is).owner ∙ here)
+  seat_is : (still.sessions n x q at is owned).seat ≡ tick
+  seat_is = some_is (still.sessions n x q at is owned).seat tick (sym (still.sessions n x q at is owned).owner ∙ here)
 
   abbrev r : client.State × ClientStep
   r = hears_by tick.client (Ok (told_message t))
@@ -299,7 +299,7 @@ module _ (laws : FitLaws) (book : Book) (k : Core) (qs : List Queue) (n now : �
 
   led : Leads book (rest_down qs n q ts) (done (with_numbered (with_numbered k.seats x.owner tick) x.owner next))
   led = subst (λ (s : Seat). IsHashed book s t → ((hears_by s.client (Ok (told_message t))).1.send ≡ [] → ActsAt book ticked x.owner s []) → Leads book (rest_down qs n q ts) (heard_by ticked x.owner s (hears_by s.client (Ok (told_message t))))) seat_is
-      (hears_it book ticked qs n x q t ts still at is first uncut) hashed acts
+      (hears_it book ticked qs n x q t ts still at is owned first uncut) hashed acts
 
   hears_now : Leads book (rest_down qs n q ts) (happens k (Hears n now (bytes_of t)))
   hears_now = subst (Leads book (rest_down qs n q ts)) (sym heard_is) (subst (λ (seats : List Seat). Leads book (rest_down qs n q ts) (done seats)) (with_twice k.seats x.owner tick next) led)
@@ -308,4 +308,4 @@ pub kept_hears : FitLaws → KeptHears
 kept_hears laws book k qs n now q t ts kept is first noted = by (also_numbered qs k.sessions n q (sym kept.made.1) is)
   where
     by : (x : Session) × (numbered k.sessions n ≡ Some x) → Leads book (rest_down qs n q ts) (happens k (Hears n now (bytes_of t)))
-    by (x, at) = hears_now laws book k qs n now q t ts kept is first noted x at
+    by (x, at) = hears_now laws book k qs n now q t ts kept is first noted x at (owned_down kept n x q at is t ts first)

@@ -9,17 +9,17 @@ use Rattle.callback_core.specs.Waits.{without}
 use Rattle.server_core.specs.Closing.{ready_by}
 use Rattle.server_core.specs.State.{State, FileChange}
 use Rattle.trace_replay.specs.Trail.{step_if}
-use Rattle.trace_replay.specs.PendingChanges.{move_of, KeepsTime, LeasesCome, GrantsNone, FreesAnswered, GoesOn, IsFreeBy, settling_at, settlings, TakesOut, WaitInTurn}
-use Rattle.kept_promise.proofs.Common.{Contains-append_left, Contains-push, Contains-push_cases, Core, Session, Event, Event.Joins, Event.Does, Event.Serves, Event.Hears, Event.Settles, Event.Cuts, Event.Hangs, happens, numbered, Moment, Book, Queue, Opening}
+use Rattle.trace_replay.specs.PendingChanges.{move_of, KeepsTime, LeasesCome, GrantsNone, FreesAnswered, ClosedBy, GoesOn, IsFreeBy, settling_at, settlings, TakesOut, WaitInTurn}
+use Rattle.kept_promise.proofs.Common.{Contains-append_left, Contains-push, Contains-push_cases, Core, Session, Event, Event.Joins, Event.Does, Event.Serves, Event.Hears, Event.Settles, Event.Cuts, Event.Hangs, happens, numbered, Moment, Book, Queue, Opening, Event.RawJoins}
 use Rattle.kept_promise.proofs.ChangesWait.{grants_none, frees_answered, goes_on, stays_ordered, quiet_stays}
 use Rattle.kept_promise.proofs.Facts.{IsKept}
 use Rattle.kept_promise.proofs.LeasesCame.{leases_come, keeps_time}
 use Rattle.kept_promise.proofs.Lists.{some_is, nothing_there, within, of_appended, kept_appended}
 use Rattle.kept_promise.proofs.MadeRuns.{Leaves, leaves_ready}
 use Rattle.kept_promise.proofs.ReadySoon.{ready_soon}
-use Rattle.kept_promise.proofs.RecallNumbers.{NumbersAt, first_numbers, numbers_then, serves_lives}
+use Rattle.kept_promise.proofs.RecallNumbers.{NumbersAt, first_numbers, numbers_then}
 use Rattle.kept_promise.proofs.RunsCarried.{book_at, moment, Finds, Step, Carried}
-use Rattle.kept_promise.proofs.Turns.{also_numbered}
+use Rattle.kept_promise.proofs.OwnersKept.{served_on}
 
 -- ---- places in what is left
 
@@ -166,23 +166,26 @@ settle_nears k ordered awake t now q c h o e l = by o e l (nat_le t now) refl
     by None e l false when = let none : step_if (nat_le t now) ≡ 0 = ap step_if when in inr (q, omega (arith, none), free_same k (Settles now) ordered t q c h (ap (λ (s : State). s.waiting) l))
     by (Some d) e l b when = out d e l.place l.there l.alone l.left b when (compare l.place q)
 
-hang_nears : (k : Core) → AreOrdered k.server.leasing.leases → (t n q : ℕ) (c : FileChange) → IsFreeBy k.server t q c → (happens k (Hangs n)).core.server.waiting ≡ without k.server.waiting n → Nears k (Hangs n) t q c
-hang_nears k ordered t n q c h left = by (c.session == n) refl
+-- the change of a session goes with it
+lost_nears : (k : Core) (e : Event) → AreOrdered k.server.leasing.leases → (t n q : ℕ) (c : FileChange) → IsFreeBy k.server t q c → settling_at t e ≡ 0 → (c.session ≡ n → TakesOut (moment k e) c) → (happens k e).core.server.waiting ≡ without k.server.waiting n → Nears k e t q c
+lost_nears k e ordered t n q c h none goes left = by (c.session == n) refl
   where
-    by : (b : Bool) → (c.session == n) ≡ b → Nears k (Hangs n) t q c
-    by true is = let same : c.session ≡ n = grind (arith, nat_tests, is) in inl (inr (ap (λ (m : ℕ). Hangs m) (sym same)))
+    by : (b : Bool) → (c.session == n) ≡ b → Nears k e t q c
+    by true is = inl (goes (grind (arith, nat_tests, is)))
     by false is =
         let l = left_at (λ (d : FileChange). not (d.session == n)) k.server.waiting q c h.there (ap not is) in
         let le = l.before in
         inr (
           l.place,
-          omega (arith, le),
-          free_then k (Hangs n) ordered t q l.place c h (ap (λ (ws : List FileChange). slice_get ws l.place) left ∙ l.there) (λ i d below at. l.were i d below (ap (λ (ws : List FileChange). slice_get ws i) (sym left) ∙ at)),
+          omega (arith, le, none),
+          free_then k e ordered t q l.place c h (ap (λ (ws : List FileChange). slice_get ws l.place) left ∙ l.there) (λ i d below at. l.were i d below (ap (λ (ws : List FileChange). slice_get ws i) (sym left) ∙ at)),
         )
 
 serve_nears : (till : List Moment) (k : Core) → AreOrdered k.server.leasing.leases → (t n now : ℕ) (bytes : List ℕ) (q : ℕ) (c : FileChange) → IsFreeBy k.server t q c → GoesOn till (Serves n now bytes) (move_of (moment k (Serves n now bytes))) → Nears k (Serves n now bytes) t q c
 serve_nears till k ordered t n now bytes q c h (inl same) = inr (q, omega arith, free_same k (Serves n now bytes) ordered t q c h same)
-serve_nears till k ordered t n now bytes q c h (inr (d, comes)) =
+serve_nears till k ordered t n now bytes q c h (inr (inr (closed, left))) =
+    lost_nears k (Serves n now bytes) ordered t n q c h refl (λ same. inr (inr (now, bytes, ap (λ (m : ℕ). Serves m now bytes) (sym same), subst (λ (m : ℕ). ClosedBy (move_of (moment k (Serves n now bytes))) m bytes) (sym same) closed))) left
+serve_nears till k ordered t n now bytes q c h (inr (inl (d, comes))) =
     let inside = within k.server.waiting q c h.there in
     inr (
       q,
@@ -197,11 +200,12 @@ serve_nears till k ordered t n now bytes q c h (inr (d, comes)) =
 nears : (till : List Moment) (book : Book) (k : Core) (qs : List Queue) (e : Event) (t q : ℕ) (c : FileChange) → IsKept book k qs → AreOrdered k.server.leasing.leases → k.server.leasing.quiet ≡ 0 → IsFreeBy k.server t q c → GoesOn till e (move_of (moment k e)) → Nears k e t q c
 nears till book k qs (Serves n now bytes) t q c kept ordered awake h goes = serve_nears till k ordered t n now bytes q c h goes
 nears till book k qs (Settles now) t q c kept ordered awake h goes = settle_nears k ordered awake t now q c h (ready_by k.server now) refl (leaves_ready book k qs now kept)
-nears till book k qs (Hangs n) t q c kept ordered awake h goes = hang_nears k ordered t n q c h goes
+nears till book k qs (Hangs n) t q c kept ordered awake h goes = lost_nears k (Hangs n) ordered t n q c h refl (λ same. inr (inl (ap (λ (m : ℕ). Hangs m) (sym same)))) goes
 nears till book k qs (Joins i) t q c kept ordered awake h goes = inr (q, omega arith, free_same k (Joins i) ordered t q c h goes)
 nears till book k qs (Does i now d) t q c kept ordered awake h goes = inr (q, omega arith, free_same k (Does i now d) ordered t q c h goes)
 nears till book k qs (Hears n now bytes) t q c kept ordered awake h goes = inr (q, omega arith, free_same k (Hears n now bytes) ordered t q c h goes)
 nears till book k qs (Cuts i) t q c kept ordered awake h goes = inr (q, omega arith, free_same k (Cuts i) ordered t q c h goes)
+nears till book k qs RawJoins t q c kept ordered awake h goes = inr (q, omega arith, free_same k RawJoins ordered t q c h goes)
 
 -- ---- lists of moments
 
@@ -290,17 +294,13 @@ module _ {all past rest : List Moment} {opening : List Opening} {k : Core} {qs :
   m_ = moment k e
 
   made : (n now : ℕ) (bytes : List ℕ) → e ≡ Serves n now bytes → (x : Session) × (numbered k.sessions n ≡ Some x)
-  made n now bytes is = by (subst (λ (z : Event). Finds k qs z mid) is s.finds)
-    where
-      by : Finds k qs (Serves n now bytes) mid → (x : Session) × (numbered k.sessions n ≡ Some x)
-      by (inl f) = also_numbered qs k.sessions n f.0 (sym s.kept.made.1) f.3
-      by (inr f) = (f.session, f.at)
+  made n now bytes is = served_on (book_at opening k all) k qs n now bytes mid s.kept (subst (λ (z : Event). Finds k qs z mid) is s.finds)
 
   numbers_now : NumbersAt (past ++ m_ ∷ []) (happens k e).core
   numbers_now = numbers_then past k e s.kept.made.0 h.numbers
 
   goes : GoesOn (past ++ m_ ∷ []) e (move_of m_)
-  goes = goes_on (past ++ m_ ∷ []) (book_at opening k all) k qs e s.kept h.ordered (λ n now bytes is i up z. numbers_now.spent i (serves_lives k e n now bytes is i up) z)
+  goes = goes_on (past ++ m_ ∷ []) (book_at opening k all) k qs e s.kept h.ordered (λ n now bytes is i up z. numbers_now.spent i (inl up) z)
 
   goes_then : (early late : List Moment) (m : Moment) → past ++ m_ ∷ [] ≡ early ++ m ∷ late → GoesOn (early ++ m ∷ []) m.event (move_of m)
   goes_then early late m is = elim (split_first past early late m m_ is) [
@@ -353,7 +353,7 @@ module _ {all past rest : List Moment} {opening : List Opening} {k : Core} {qs :
         keeps = keeps_time k e h.awake;
         come = leases_come (book_at opening k all) k qs e s.kept h.ordered;
         grants_none = grants_none k e h.ordered;
-        frees = frees_answered (book_at opening k all) k qs e made;
+        frees = frees_answered (book_at opening k all) k qs e s.kept made;
       })
     ];
     live = live_then;

@@ -4,17 +4,17 @@ use Rattle.std.proofs.lemmas.List.Folds.{list_any-append}
 use Rattle.server_core.specs.State as server
 use Rattle.chunk_calls.specs.Files as the_files
 use Rattle.client_state.specs.State as client
-use Rattle.kept_promise.proofs.Common.{nat_tests, slice_get, cond, ◌==◌, ◌||◌, nat_lt, list_any, has_room, connect, Temp, temp_at, key_of, FileChange, ServerStep, joined, Task, Pending, Op, Core, Seat, Session, new_session, numbered, with_numbered, joins_as, joins, Book, Queue, no_queue}
-use Rattle.kept_promise.proofs.Lists.{some_is, nothing_there, same_or_not, at_end, of_appended, kept_appended, count_more}
+use Rattle.kept_promise.proofs.Common.{nat_tests, slice_get, cond, ◌==◌, ◌||◌, nat_lt, list_any, has_room, connect, Temp, temp_at, key_of, FileChange, ServerStep, joined, Task, Pending, Op, Core, Seat, Session, is_raw, new_session, numbered, with_numbered, joins_as, joins, Book, Queue, no_queue, raw_session, raw_joins_as}
+use Rattle.kept_promise.proofs.Lists.{some_is, nothing_there, same_or_not, at_end, of_appended, kept_appended, count_more, true_and_false, false_and_true}
 use Rattle.kept_promise.proofs.Keys.{times, own, on_way, change_key, pending_key}
 use Rattle.kept_promise.proofs.Messages.{Job, job, job_of}
 use Rattle.kept_promise.proofs.History.{onward, grows_same, goes_same, still_same}
-use Rattle.kept_promise.proofs.Later.{session_later, seat_later, cached_later, SameView}
-use Rattle.kept_promise.proofs.Turns.{around_with, turned_core, numbered_within}
+use Rattle.kept_promise.proofs.Later.{session_later, seat_later, cached_later, SameView, raw_later}
+use Rattle.kept_promise.proofs.Turns.{around_with, turned_core, numbered_within, has_owner, came_new}
 use Rattle.kept_promise.proofs.Shelves.{of_lookup}
 use Rattle.kept_promise.proofs.Ordered.{orderly_new}
-use Rattle.kept_promise.proofs.Facts.{IsTalk, IsSession, IsSeat, IsMatched, IsKept}
-use Rattle.kept_promise.proofs.Leading.{Leads, KeptJoins}
+use Rattle.kept_promise.proofs.Facts.{IsTalk, IsSession, IsSeat, IsMatched, IsKept, IsRawSession}
+use Rattle.kept_promise.proofs.Leading.{Leads, KeptJoins, KeptRawJoins}
 use Rattle.kept_promise.proofs.Takes.{file_still, fresh_still}
 use Rattle.kept_promise.proofs.Hangs.{leads_quiet}
 use Rattle.kept_promise.proofs.Growth.{there_later}
@@ -76,6 +76,10 @@ stands_new n ks =
 abbrev with_session : server.State → (n : ℕ) → server.State
 with_session s n = record s { sessions = s.sessions ++ n ∷ []; sessions_made = s.sessions_made + 1 }
 
+-- of a new session no message came
+abbrev pub one_came : Core → Core
+one_came k = record k { came = k.came ++ 0 ∷ [] }
+
 abbrev seated : Seat → (n : ℕ) → Seat
 seated seat n = record seat { client = joined seat.client; session = Some n }
 
@@ -103,7 +107,7 @@ new_talk book s n c seat free none =
     }
 
 joined_now : (book : Book) (k : Core) (qs : List Queue) (c n : ℕ) (seat : Seat) → IsKept book k qs → n ≡ k.server.sessions_made + 1 → numbered k.seats c ≡ Some seat → seat.client.linked ≡ false
-    → IsKept (onward book 2 book.ops) (turned_core k (onward book 2 book.ops) (with_session k.server n) (with_numbered k.seats c (seated seat n)) (k.sessions ++ new_session c ∷ [])) (qs ++ no_queue ∷ [])
+    → IsKept (onward book 2 book.ops) (turned_core (one_came k) (onward book 2 book.ops) (with_session k.server n) (with_numbered k.seats c (seated seat n)) (k.sessions ++ new_session c ∷ [])) (qs ++ no_queue ∷ [])
 joined_now book k qs c n seat kept number at unlinked =
     let more = onward book 2 book.ops in
     let g = grows_same book 2 in
@@ -126,16 +130,25 @@ joined_now book k qs c n seat kept number at unlinked =
       journal = kept.journal;
       entries = refl;
       sound = (goes_same book 2 kept.sound).sound;
+      raws = kept.raws;
+      came = let s = kept.steps in came_new k.came (length k.sessions) (length sessions) k.steps more.steps (count_more k.sessions (new_session c)) (omega (arith, s)) kept.came;
       server = record { held = λ f. file_still book more None None f (the_files.file_at s.tree f) g (still_same book 2 kept.sound) (kept.server.held f); fresh = fresh_still book more None None s.tree g (still_same book 2 kept.sound) kept.server.fresh; bounded = kept.server.bounded; zero = kept.server.zero; rooted = kept.server.rooted; wants = kept.server.wants; changes = kept.server.changes; bytes = kept.server.bytes; lengths = kept.server.lengths; targets = λ i c e. there_later book more None None c.file g (kept.server.targets i c e); xids = kept.server.xids; leases = kept.server.leases; serves = kept.server.serves };
       made = (let a = count_more k.sessions (new_session c) in omega (arith, a, made), count_more qs no_queue ∙ ap suc kept.made.1 ∙ sym (count_more k.sessions (new_session c)));
-      sessions = λ m z p f h. elim (of_new k.sessions (new_session c) m z f) [
+      sessions = λ m z p f h own. elim (of_new k.sessions (new_session c) m z f) [
         | inl new ↦ elim (of_new qs no_queue m p h) [
           | inl also ↦ new_session_is m z p (new.0 ∙ sym late) new.1 also.1 free none
           | inr old ↦ let w = numbered_within qs m p old in absurd (omega (arith, w, new.0, kept.made.1))
         ]
         | inr old ↦ elim (of_new qs no_queue m p h) [
           | inl also ↦ let w = numbered_within k.sessions m z old in absurd (omega (arith, w, also.0, kept.made.1))
-          | inr there ↦ old_session m z p late old (kept.sessions m z p old there) (same_or_not z.owner c)
+          | inr there ↦ old_session m z p late old (kept.sessions m z p old there own) (same_or_not z.owner c)
+        ]
+      ];
+      strangers = λ m z p f h raw. elim (of_new k.sessions (new_session c) m z f) [
+        | inl new ↦ absurd (true_and_false (is_raw z) raw (ap is_raw new.1 ∙ has_owner k.seats (new_session c) seat at))
+        | inr old ↦ elim (of_new qs no_queue m p h) [
+          | inl also ↦ let w = numbered_within k.sessions m z old in absurd (omega (arith, w, also.0, kept.made.1))
+          | inr there ↦ raw_later k.server (with_session k.server n) m z p (view m z late old) (kept.strangers m z p old there raw)
         ]
       ];
       seats = λ i e f. elim (same_or_not i c) [
@@ -232,11 +245,11 @@ joined_now book k qs c n seat kept number at unlinked =
           kept = cached_later book (onward book 2 book.ops) None None seat.client.cache (grows_same book 2) was.kept;
         }
 
-core_joined : (book : Book) (k : Core) (qs : List Queue) (r : server.State) (seats : List Seat) (sessions : List Session) → IsKept book k qs → turned_core k (onward book 2 book.ops) r seats sessions ≡ record k { server = r; seats = seats; sessions = sessions; steps = k.steps + 2; ops = k.ops; entries = k.entries }
+core_joined : (book : Book) (k : Core) (qs : List Queue) (r : server.State) (seats : List Seat) (sessions : List Session) → IsKept book k qs → turned_core (one_came k) (onward book 2 book.ops) r seats sessions ≡ record (one_came k) { server = r; seats = seats; sessions = sessions; steps = k.steps + 2; ops = k.ops; entries = k.entries }
 core_joined book k qs r seats sessions h =
-    ap (λ (s : ℕ). record k { server = r; seats = seats; sessions = sessions; steps = s + 2; ops = book.ops; entries = book.entries }) h.steps
-    ∙ ap (λ (o : List Op). record k { server = r; seats = seats; sessions = sessions; steps = k.steps + 2; ops = o; entries = book.entries }) h.ops
-    ∙ ap (λ (e : List ℕ). record k { server = r; seats = seats; sessions = sessions; steps = k.steps + 2; ops = k.ops; entries = e }) h.entries
+    ap (λ (s : ℕ). record (one_came k) { server = r; seats = seats; sessions = sessions; steps = s + 2; ops = book.ops; entries = book.entries }) h.steps
+    ∙ ap (λ (o : List Op). record (one_came k) { server = r; seats = seats; sessions = sessions; steps = k.steps + 2; ops = o; entries = book.entries }) h.ops
+    ∙ ap (λ (e : List ℕ). record (one_came k) { server = r; seats = seats; sessions = sessions; steps = k.steps + 2; ops = k.ops; entries = e }) h.entries
 
 -- below the limits the server makes a session
 pub connects : (s : server.State) → s.sessions_made < 4294967295 → length s.sessions < 64 → connect s (has_room s) ≡ connect s true
@@ -254,7 +267,7 @@ leads_joined book k qs c seat kept at unlinked made few =
     let sessions = k.sessions ++ new_session c ∷ [] in
     let now = subst (λ (z : Core). IsKept (onward book 2 book.ops) z (qs ++ no_queue ∷ [])) (core_joined book k qs (with_session k.server n) seats sessions kept) (joined_now book k qs c n seat kept refl at unlinked) in
     subst (λ (r : server.State × ServerStep). Leads book qs (joins_as k c seat r.0 r.1.told)) (sym step) (record {
-      sends = record { replies = []; replies_fit = tt; asks = []; up_is = refl; recalls = []; recalls_fit = tt; tolds = []; down_is = refl };
+      sends = record { replies = []; replies_fit = tt; asks = []; up_is = refl; strays = []; strays_cut = tt; recalls = []; recalls_fit = tt; tolds = []; down_is = refl };
       more = onward book 2 book.ops;
       moments = refl;
       opening = refl;
@@ -267,3 +280,89 @@ kept_joins = λ book k qs c kept noted made few free. by book k qs c kept made f
     by : (book : Book) (k : Core) (qs : List Queue) (c : ℕ) → IsKept book k qs → k.server.sessions_made < 4294967295 → length k.server.sessions < 64 → (o : Option Seat) → numbered k.seats c ≡ o → ((seat : Seat) → numbered k.seats c ≡ Some seat → seat.client.linked ≡ false) → Leads book qs (joins k c o)
     by book k qs c kept made few None at free = leads_quiet book k qs kept
     by book k qs c kept made few (Some seat) at free = leads_joined book k qs c seat kept at (free seat at) made few
+
+-- ---- a session is made that is no client's
+
+raw_view : (book : Book) (k : Core) (qs : List Queue) (n m : ℕ) (z : Session) → IsKept book k qs → n ≡ suc (length k.sessions) → numbered k.sessions m ≡ Some z → SameView m k.server (with_session k.server n)
+raw_view book k qs n m z kept late f = let w = numbered_within k.sessions m z f in record { stands_is = stands_more m n k.server.sessions (λ q. omega (arith, w, q, late)); waiting = refl; temps = λ i m e lt g at. (i, g); found = λ m lt. refl }
+
+raw_joined : (book : Book) (k : Core) (qs : List Queue) (n : ℕ) → IsKept book k qs → n ≡ k.server.sessions_made + 1
+    → IsKept (onward book 1 book.ops) (record (one_came k) { steps = k.steps + 1; server = with_session k.server n; sessions = k.sessions ++ raw_session ∷ [] }) (qs ++ no_queue ∷ [])
+raw_joined book k qs n kept number =
+    let more = onward book 1 book.ops in
+    let g = grows_same book 1 in
+    let s = k.server in
+    let r = with_session s n in
+    let sessions = k.sessions ++ raw_session ∷ [] in
+    let made = kept.made.0 in
+    let late : n ≡ suc (length k.sessions) = omega (arith, number, made) in
+    let none : own n s.waiting ≡ [] = own_none n s.waiting (λ i d e same. let z = kept.home i d e in let w = numbered_within k.sessions d.session z.0 z.1 in omega (arith, w, same, late)) in
+    record {
+      lbfs = kept.lbfs;
+      ops = kept.ops;
+      steps = ap (λ (m : ℕ). m + 1) kept.steps;
+      journal = kept.journal;
+      entries = kept.entries;
+      sound = (goes_same book 1 kept.sound).sound;
+      raws = kept.raws;
+      came = came_new k.came (length k.sessions) (length sessions) k.steps (k.steps + 1) (count_more k.sessions raw_session) (omega arith) kept.came;
+      server = record { held = λ f. file_still book more None None f (the_files.file_at s.tree f) g (still_same book 1 kept.sound) (kept.server.held f); fresh = fresh_still book more None None s.tree g (still_same book 1 kept.sound) kept.server.fresh; bounded = kept.server.bounded; zero = kept.server.zero; rooted = kept.server.rooted; wants = kept.server.wants; changes = kept.server.changes; bytes = kept.server.bytes; lengths = kept.server.lengths; targets = λ i c e. there_later book more None None c.file g (kept.server.targets i c e); xids = kept.server.xids; leases = kept.server.leases; serves = kept.server.serves };
+      made = (let a = count_more k.sessions raw_session in omega (arith, a, made), count_more qs no_queue ∙ ap suc kept.made.1 ∙ sym (count_more k.sessions raw_session));
+      sessions = λ m z p f h owned. elim (of_new k.sessions raw_session m z f) [
+        | inl new ↦ absurd (false_and_true (is_raw z) owned (ap is_raw new.1))
+        | inr old ↦ elim (of_new qs no_queue m p h) [
+          | inl also ↦ let w = numbered_within k.sessions m z old in absurd (omega (arith, w, also.0, kept.made.1))
+          | inr there ↦
+              let was = kept.sessions m z p old there owned in
+              session_later book more None None k.seats k.seats s r m z p was.seat was.seat g was.owner was.owner (λ e. refl) (λ i u v. nothing_there i v) (raw_view book k qs n m z kept late old) was
+        ]
+      ];
+      strangers = λ m z p f h raw. elim (of_new k.sessions raw_session m z f) [
+        | inl new ↦ elim (of_new qs no_queue m p h) [
+          | inl also ↦ raw_new m z p (new.0 ∙ sym late) new.1 also.1 none
+          | inr old ↦ let w = numbered_within qs m p old in absurd (omega (arith, w, new.0, kept.made.1))
+        ]
+        | inr old ↦ elim (of_new qs no_queue m p h) [
+          | inl also ↦ let w = numbered_within k.sessions m z old in absurd (omega (arith, w, also.0, kept.made.1))
+          | inr there ↦ raw_later s r m z p (raw_view book k qs n m z kept late old) (kept.strangers m z p old there raw)
+        ]
+      ];
+      seats = λ i e f. seat_later book more None None k.sessions sessions i e g (λ m z h. (z, still_there k.sessions raw_session m z h, refl, λ mine. refl)) (λ p o h. nothing_there p h) (kept.seats i e f);
+      running = kept.running;
+      closings = λ a b p u v f h e q. elim (of_new k.sessions raw_session a u f) [
+        | inl new ↦ nothing_there p (ap (λ (z : Session). z.closing) (sym new.1) ∙ e)
+        | inr one ↦ elim (of_new k.sessions raw_session b v h) [
+          | inl new ↦ nothing_there p (ap (λ (z : Session). z.closing) (sym new.1) ∙ q)
+          | inr two ↦ kept.closings a b p u v one two e q
+        ]
+      ];
+      home = λ i d f. let z = kept.home i d f in (z.0, still_there k.sessions raw_session d.session z.0 z.1, z.2);
+      shelf = kept.shelf;
+      unborn = λ o m i e past lt g at. kept.unborn o m i e (let a = count_more k.sessions raw_session in omega (arith, past, a)) lt g at;
+    }
+  where
+    raw_new : (m : ℕ) (z : Session) (p : Queue) → m ≡ n → z ≡ raw_session → p ≡ no_queue → own n k.server.waiting ≡ [] → IsRawSession (with_session k.server n) m z p
+    raw_new m z p e f h none =
+        let made = kept.made.0 in
+        subst (λ (i : ℕ). IsRawSession (with_session k.server n) i z p) (sym e)
+        (subst (λ (x : Session). IsRawSession (with_session k.server n) n x p) (sym f)
+        (subst (λ (q : Queue). IsRawSession (with_session k.server n) n raw_session q) (sym h) (record {
+          shut = refl;
+          closing = refl;
+          ups = refl;
+          downs = refl;
+          stands_is = stands_new n k.server.sessions;
+          temps = λ i m e lt g at. absurd (kept.unborn n m i e (omega (arith, number, made)) lt g at);
+          single = let l = ap length none in omega (arith, l);
+        })))
+
+pub kept_raw_joins : KeptRawJoins
+kept_raw_joins book k qs kept noted made few =
+    let n : ℕ = k.server.sessions_made + 1 in
+    subst (λ (r : server.State × ServerStep). Leads book qs (raw_joins_as k r.0 r.1.told)) (sym (connects k.server made few)) (record {
+      sends = record { replies = []; replies_fit = tt; asks = []; up_is = refl; strays = []; strays_cut = tt; recalls = []; recalls_fit = tt; tolds = []; down_is = refl };
+      more = onward book 1 book.ops;
+      moments = refl;
+      opening = refl;
+      kept = raw_joined book k qs n kept refl;
+    })

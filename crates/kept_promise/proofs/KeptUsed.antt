@@ -223,7 +223,7 @@ used_event fits all past rest opening k qs e mid after s known said h = record {
   ];
   leased = λ z there p o at. elim (Contains-push_cases past (moment k e) z there) [
     | inl old ↦ elim (h.by z old) [
-      | inl lt ↦ leased_stays (book_at opening k all) (book_at opening (happens k e).core all) k qs e z s.kept lt w.0 refl (same_version k e) (λ y c. c) (h.leased z old) (h.shut z old) p o at
+      | inl lt ↦ leased_stays (book_at opening k all) (book_at opening (happens k e).core all) k qs e z s.kept lt w.0 refl refl (same_version k e) (λ y c. c) (h.leased z old) (h.shut z old) p o at
       | inr silent ↦ none_leased (book_at opening (happens k e).core all) z o silent.0
     ]
     | inr new ↦ subst (λ (y : Moment). TellsLease (book_at opening (happens k e).core all) y o) new (leased_now fits all past rest opening k qs e mid after s w.0 p o at)

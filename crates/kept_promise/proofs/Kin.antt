@@ -140,9 +140,12 @@ kept_kin book k qs index seats kin cached h = record {
   journal = h.journal;
   entries = h.entries;
   sound = h.sound;
+  raws = h.raws;
+  came = h.came;
   server = server_kin book k.server index h.server;
   made = h.made;
-  sessions = λ n x q at is. session_kin book k.seats seats k.server index n x q kin (h.sessions n x q at is);
+  sessions = λ n x q at is own. session_kin book k.seats seats k.server index n x q kin (h.sessions n x q at is own);
+  strangers = λ n x q at is raw. let o = h.strangers n x q at is raw in record { shut = o.shut; closing = o.closing; ups = o.ups; downs = o.downs; stands_is = o.stands_is; temps = o.temps; single = o.single };
   seats = λ i e at. let w = kin.was i e at in subst (IsSeat book k.sessions i) (sym w.3) (seat_kin book k.sessions i w.0 w.1 (subst (λ (z : Seat). Cached book z.client.cache) w.3 (cached i e at)) (h.seats i w.0 w.2));
   running = λ p o at run. let r = h.running p o at run in let e = kin.is o.client r.0 r.2 in (with_parts r.0 e.0, r.1, e.1, r.3, r.4);
   closings = h.closings;

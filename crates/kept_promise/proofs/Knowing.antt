@@ -15,7 +15,7 @@ use Rattle.temp_files.specs.Temps.{with_piece}
 use Rattle.client_state.specs.State as client
 use Rattle.client_state.specs.declared.task.Way.TheVariants as way
 use Rattle.trace_replay.specs.Trail.{served_hashed}
-use Rattle.kept_promise.proofs.Common.{nat_tests, slice_get, ◌==◌, nat_le, bytes_eq, Contains, sha1, if◌then◌else◌, Chunk, chunk_bytes, Done, Failed, Status, at, cond_fault, names, names_unless, names_bytes, bytes_known, bytes_found, Indexed, Temp, temp_at, with_temp, key_of, File, Core, Session, unless, hashed_of, Book, Or, Call.Name, Call.Send, Reply.Named, Ask, Told, Queue, Tree, later}
+use Rattle.kept_promise.proofs.Common.{nat_tests, slice_get, ◌==◌, nat_le, bytes_eq, Contains, sha1, if◌then◌else◌, Chunk, chunk_bytes, Done, Failed, Status, at, cond_fault, names, names_unless, names_bytes, bytes_known, bytes_found, Indexed, Temp, temp_at, with_temp, key_of, File, Core, Session, unless, hashed_of, Book, Or, Call.Name, Call.Send, Reply.Named, Ask, Told, Queue, Tree, later, ask_message, message_spell}
 use Rattle.kept_promise.proofs.Statements.{CallFits}
 use Rattle.kept_promise.proofs.Lists.{some_is, nothing_there}
 use Rattle.kept_promise.proofs.Keys.{times, times_append, times_head, own, key, change_key, ask_key, told_key, there_by}
@@ -33,6 +33,7 @@ use Rattle.kept_promise.proofs.Facts.{IsSession}
 use Rattle.kept_promise.proofs.Serves.{answered, parsed, contains_at}
 use Rattle.kept_promise.proofs.Calls.{downs_then, put_temp, served, Given, session_in, first_fits, rest_of, leads_by, held_still, held_at, place_at, rest_above, serve_plain}
 use Rattle.kept_promise.proofs.Leading.{Leads}
+use Rattle.kept_promise.proofs.Turns.{owned_hashed}
 
 -- ---- bytes that are known
 
@@ -161,7 +162,7 @@ serve_name laws book k qs n now x q lbfs xid m d us g = by (temp_at k.server.tem
     compared : (bytes : List ℕ) → cond_fault c (temp_at k.server.temps n m) ≡ None → known ≡ Some bytes → Contains (hashed_of book.moments) bytes
     compared bytes none is =
         let there = (digest_is d.digest (bytes_found k.server.tree c (place_of k.server.index.pairs (digest_key d.digest))) bytes is).0 in
-        g.noted.hashed bytes (subst (λ (l : List (List ℕ)). Contains l bytes) (sym (ap (served_hashed k n) (parsed laws a fits) ∙ ap (bytes_compared k.server c) none ∙ ap listed there)) (contains_at (bytes ∷ []) 0 bytes refl))
+        g.noted.hashed bytes (subst (λ (l : List (List ℕ)). Contains l bytes) (sym (owned_hashed k n now (message_spell (ask_message a)) x g.at g.owned ∙ ap (served_hashed k n) (parsed laws a fits) ∙ ap (bytes_compared k.server c) none ∙ ap listed there)) (contains_at (bytes ∷ []) 0 bytes refl))
 
     parts : (bytes : List ℕ) → cond_fault c (temp_at k.server.temps n m) ≡ None → known ≡ Some bytes → length bytes ≡ d.len → Or book (IsPartOf (h.contents m) d.start bytes)
     parts bytes none is count =

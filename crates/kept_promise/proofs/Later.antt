@@ -17,7 +17,7 @@ use Rattle.kept_promise.proofs.Growth.{Grows, takes_later, value_later, version_
 use Rattle.kept_promise.proofs.Orderly.{Orderly}
 use Rattle.kept_promise.proofs.Ordered.{SameFound, orderly_later}
 use Rattle.kept_promise.proofs.Statements.{IsSpoken, ToldFits}
-use Rattle.kept_promise.proofs.Facts.{commits_in, Cached, IsBalanced, IsTalk, IsSession, IsOf, IsSeat, is_naming}
+use Rattle.kept_promise.proofs.Facts.{commits_in, Cached, IsBalanced, IsTalk, IsSession, IsOf, IsSeat, is_naming, IsRawSession}
 use Rattle.kept_promise.proofs.Rights.{gets_file}
 use Rattle.kept_promise.proofs.PathNames.{is_creating}
 use Rattle.trace_replay.specs.Naming.{entry_file}
@@ -315,6 +315,18 @@ session_later book more made ended seats others s r n x q c d g was is same spar
       old = λ k at. let o = h.old k at in let p = g.each k o.0 o.1 in (p.0, p.1, p.2.client ∙ o.2);
       orderly = λ at. subst (λ (z : Seat). Orderly more n r.temps x.hung q z) (sym (there at)) (orderly_later book more made ended n s.temps r.temps x.hung q h.seat g view.found (h.orderly at));
     }
+
+-- one that is no client's: what it has at the server is as it was
+pub raw_later : (s r : server.State) (n : ℕ) (x : Session) (q : Queue) → SameView n s r → IsRawSession s n x q → IsRawSession r n x q
+raw_later s r n x q view h = record {
+  shut = h.shut;
+  closing = h.closing;
+  ups = h.ups;
+  downs = h.downs;
+  stands_is = view.stands_is ∙ h.stands_is;
+  temps = λ i m u lt at k. let w = view.temps i m u lt at k in h.temps w.0 m u lt w.1 k;
+  single = subst (λ (l : List FileChange). length l ≤ 1) (sym view.waiting) h.single;
+}
 
 -- ---- clients
 

@@ -1,14 +1,15 @@
 -- What each event is to be shown to keep.
-use Rattle.std.proofs.Common.{◌≡◌, ℕ, ◌<◌, List, [], ◌∷◌, ◌++◌, length, Option, Some, None, false, map}
+use Rattle.std.proofs.Common.{◌≡◌, ℕ, ◌<◌, List, [], ◌∷◌, ◌++◌, length, Option, Some, None, true, false, map, ◌⊎◌, suc, Bool}
 use Rattle.std.specs.List.{AllByRecursion}
 use Rattle.callback_core.specs.declared.back_calls.Asked.{Asked}
 use Rattle.server_core.specs.Recalling.{recall_sent}
 use Rattle.server_core.specs.declared.event.Sent.{Sent}
 use Rattle.lease_law.specs.Claims.{recall_message}
-use Rattle.kept_promise.proofs.Common.{Contains, message_spell, Command, Core, Seat, Session, Event, Event.Joins, Event.Does, Event.Serves, Event.Hears, Event.Settles, Event.Cuts, Event.Hangs, Loss, Loss.Nothing, Loss.Down_of, Loss.Up_of, CoreStep, numbered, with_numbered, happens, Wire, unless, lost_by, up_put, down_put, hashed_of, hashed_by, Book, Ask, Told, Queue, no_queue, Carries, ask_message, told_message, Up, Up.Asks, Up.Replies, Down, Down.Tells, Down.Recalls, Mix, no_mix, reply_message}
+use Rattle.kept_promise.proofs.Common.{Contains, message_spell, Command, Core, Seat, Session, Event, Event.Joins, Event.Does, Event.Serves, Event.Hears, Event.Settles, Event.Cuts, Event.Hangs, Loss, Loss.Nothing, Loss.Down_of, Loss.Up_of, CoreStep, numbered, with_numbered, happens, Wire, unless, lost_by, up_put, down_put, hashed_of, hashed_by, Book, Ask, Told, Queue, no_queue, Carries, ask_message, told_message, Up, Up.Asks, Up.Replies, Down, Down.Tells, Down.Recalls, Mix, no_mix, reply_message, is_raw, Event.RawJoins}
 use Rattle.kept_promise.proofs.PathNames.{IsSmall}
 use Rattle.kept_promise.proofs.Facts.{IsKept}
 use Rattle.trace_ends.specs.Core.{Loss.Made}
+use Rattle.kept_promise.proofs.SentBytes.{AreBytes}
 
 -- ---- what is sent, as calls and answers
 
@@ -19,6 +20,10 @@ sent_message p = record { session = p.0; message = told_message p.1 }
 abbrev pub IsFit : Asked → Type 0
 IsFit a = (a.xid < 4294967296) × (a.file < 18446744073709551616)
 
+-- nobody hears it
+abbrev pub IsStray : List Session → Sent → Type 0
+IsStray sessions s = (x : Session) × (numbered sessions s.session ≡ Some x) × (x.cut ≡ true)
+
 -- up go answers to RECALLs and calls, and down RECALLs and answers to calls; no step sends both
 pub record Sends (t : CoreStep) : Type 0 where
   pub replies : List ℕ
@@ -28,7 +33,10 @@ pub record Sends (t : CoreStep) : Type 0 where
   pub recalls : List Asked
   pub recalls_fit : AllByRecursion IsFit recalls
   pub tolds : List (ℕ × Told)
-  pub down_is : t.down ≡ map recall_sent recalls ++ map sent_message tolds
+  -- what goes down sessions that their owners left, or that have none, is heard by nobody
+  pub strays : List Sent
+  pub strays_cut : AllByRecursion (IsStray t.core.sessions) strays
+  pub down_is : t.down ≡ strays ++ (map recall_sent recalls ++ map sent_message tolds)
 
 -- the same, as what is on its way
 abbrev pub sent_ups : (t : CoreStep) → Sends t → List Up
@@ -128,14 +136,31 @@ pub record Leads (book : Book) (qs : List Queue) (t : CoreStep) : Type 0 where
   pub opening : more.opening ≡ book.opening
   pub kept : IsKept more t.core (queues_after qs t sends)
 
+-- a wire carries what is on its way; of a session that is no client's nothing is known but that nothing comes down it, and that bytes go up
+abbrev pub IsCarried : (is_raw : Bool) → Wire → Mix → Type 0
+IsCarried true q m = (q.down ≡ []) × AreBytes q.up × AreBytes q.server_end.rest
+IsCarried false q m = Carries q m
+
 -- wires carry what is on its way, one by one
-abbrev pub CarryAll : List Wire → List Mix → Type 0
-CarryAll wires ms = (length wires ≡ length ms) × ((n : ℕ) (q : Wire) (m : Mix) → numbered wires n ≡ Some q → numbered ms n ≡ Some m → Carries q m)
+abbrev pub CarryAll : List Session → List Wire → List Mix → Type 0
+CarryAll sessions wires ms = (length wires ≡ length ms) × ((n : ℕ) (x : Session) (q : Wire) (m : Mix) → numbered sessions n ≡ Some x → numbered wires n ≡ Some q → numbered ms n ≡ Some m → IsCarried (is_raw x) q m)
+
+-- what is sent to a session that is no client's vanishes
+abbrev pub AreDeaf : List Session → Type 0
+AreDeaf sessions = (n : ℕ) (x : Session) → numbered sessions n ≡ Some x → is_raw x ≡ true → x.cut ≡ true
+
+-- each session has the owner that it had, or is new
+abbrev pub OwnersStay : List Session → List Session → Type 0
+OwnersStay sessions after = (n : ℕ) (y : Session) → numbered after n ≡ Some y → ((x : Session) × (numbered sessions n ≡ Some x) × (y.owner ≡ x.owner)) ⊎ (n ≡ suc (length sessions))
+
+-- what is sent up is sent by a client
+abbrev pub IsSentOwned : CoreStep → Type 0
+IsSentOwned t = (n : ℕ) (x : Session) → t.session ≡ Some n → numbered t.core.sessions n ≡ Some x → is_raw x ≡ false
 
 -- ---- wanted
 
 abbrev pub RoutesCarry : Type 0
-RoutesCarry = (wires : List Wire) (ms : List Mix) (t : CoreStep) (s : Sends t) → CarryAll wires ms → CarryAll (down_put t.core.sessions (up_put t.core.sessions (lost_by wires t.loss) t.session t.up) t.down) (mixes_after ms t s)
+RoutesCarry = (sessions : List Session) (wires : List Wire) (ms : List Mix) (t : CoreStep) (s : Sends t) → OwnersStay sessions t.core.sessions → AreDeaf t.core.sessions → IsSentOwned t → length sessions ≡ length ms → CarryAll sessions wires ms → CarryAll t.core.sessions (down_put t.core.sessions (up_put t.core.sessions (lost_by wires t.loss) t.session t.up) t.down) (mixes_after ms t s)
 
 -- the number of a session that can be made is not used up
 abbrev pub KeptJoins : Type 0
@@ -166,7 +191,15 @@ KeptHears = (book : Book) (k : Core) (qs : List Queue) (n now : ℕ) (q : Queue)
 
 -- an answer to a RECALL is taken, whether it is waited for or not, and a RECALL: of calls and answers nothing moves
 abbrev pub KeptReplies : Type 0
-KeptReplies = (book : Book) (k : Core) (qs : List Queue) (n now xid : ℕ) → xid < 4294967296 → IsKept book k qs → IsNoted book k (Serves n now (message_spell (reply_message xid))) → Leads book qs (happens k (Serves n now (message_spell (reply_message xid))))
+KeptReplies = (book : Book) (k : Core) (qs : List Queue) (n now xid : ℕ) (x : Session) → numbered k.sessions n ≡ Some x → x.hung ≡ false → xid < 4294967296 → IsKept book k qs → IsNoted book k (Serves n now (message_spell (reply_message xid))) → Leads book qs (happens k (Serves n now (message_spell (reply_message xid))))
 
 abbrev pub KeptRecalls : Type 0
 KeptRecalls = (book : Book) (k : Core) (qs : List Queue) (n now xid file : ℕ) → xid < 4294967296 → file < 18446744073709551616 → IsKept book k qs → IsNoted book k (Hears n now (message_spell (recall_message xid file))) → Leads book qs (happens k (Hears n now (message_spell (recall_message xid file))))
+
+-- a session is made that is no client's
+abbrev pub KeptRawJoins : Type 0
+KeptRawJoins = (book : Book) (k : Core) (qs : List Queue) → IsKept book k qs → IsNoted book k RawJoins → k.server.sessions_made < 4294967295 → length k.server.sessions < 64 → Leads book qs (happens k RawJoins)
+
+-- and sends whatever it sends
+abbrev pub KeptRaws : Type 0
+KeptRaws = (book : Book) (k : Core) (qs : List Queue) (n now : ℕ) (bytes : List ℕ) (x : Session) → numbered k.sessions n ≡ Some x → is_raw x ≡ true → AreBytes bytes → IsKept book k qs → IsNoted book k (Serves n now bytes) → Leads book qs (happens k (Serves n now bytes))

@@ -1,5 +1,5 @@
 -- What a client hears of a GETLEASE: whose answer it is, and that it tells the version which the file had when the server took the call.
-use Rattle.std.proofs.Common.{◌⊎◌, inl, inr, ◌≡◌, ℕ, ◌+◌, ◌<◌, ◌≤◌, List, [], length, Option, Some, None, Ok, Bool, true, false, refl, sym, ap, ◌∙◌, subst, arith, eqb-true}
+use Rattle.std.proofs.Common.{◌⊎◌, inl, inr, ◌≡◌, ℕ, ◌+◌, ◌<◌, ◌≤◌, List, [], length, Option, Some, None, Ok, Bool, true, false, refl, sym, ap, ◌∙◌, subst, arith, eqb-true, map, ◌++◌}
 use Rattle.hash_calls.specs.declared.call.Leased.{Leased}
 use Rattle.hash_calls.specs.declared.message.Lb.TheVariants as lb
 use Rattle.wire.specs.declared.message.Body.TheVariants as body
@@ -30,9 +30,12 @@ use Rattle.kept_promise.proofs.StepCases.{IsFault, IsOfFile}
 use Rattle.kept_promise.proofs.VersionRuns.{or_none}
 use Rattle.kept_promise.proofs.LogEvents.{file_stays}
 use Rattle.kept_promise.proofs.Versions.{version_in}
-use Rattle.kept_promise.proofs.OpsAfter.{OpsAfter, same_versions}
+use Rattle.kept_promise.proofs.OpsAfter.{OpsAfter, versions_all}
 use Rattle.kept_promise.proofs.Found.{took_finds}
 use Rattle.kept_promise.proofs.Rights.{WasThere}
+use Rattle.kept_promise.proofs.Turns.{has_owner}
+use Rattle.register_model.specs.Raw.{op_of}
+use Rattle.register_model.specs.declared.raw.Raw.{Raw}
 
 -- ---- whose answer it is
 
@@ -222,10 +225,10 @@ leased_by book k taken closing j m o x l (Versioned a) ops steps at file asking 
 leased_by book k taken closing j m o x l r ops steps at file asking is answer = absurd cc
 
 -- of two books with one opening
-counted_so : (book more : Book) (f q : ℕ) → more.opening ≡ book.opening → version_in more.ops f q ≡ version_in book.ops f q → version_at more f q ≡ version_at book f q
+counted_so : (book more : Book) (f q : ℕ) → more.opening ≡ book.opening → version_in (more.ops ++ map op_of more.raws) f q ≡ version_in (book.ops ++ map op_of book.raws) f q → version_at more f q ≡ version_at book f q
 counted_so book more f q opening same =
-    let count : length (filter (changed_before f q) more.ops) ≡ length (filter (changed_before f q) book.ops) = omega (arith, same) in
-    ap (λ (z : List Opening). length (filter (changed_before f q) more.ops) + first_version (content_of z f)) opening ∙ ap (λ (n : ℕ). n + first_version (content_of book.opening f)) count
+    let count : length (filter (changed_before f q) (more.ops ++ map op_of more.raws)) ≡ length (filter (changed_before f q) (book.ops ++ map op_of book.raws)) = omega (arith, same) in
+    ap (λ (z : List Opening). length (filter (changed_before f q) (more.ops ++ map op_of more.raws)) + first_version (content_of z f)) opening ∙ ap (λ (n : ℕ). n + first_version (content_of book.opening f)) count
 
 leased_hears : FitLaws → (all past rest : List Moment) (opening : List Opening) (k : Core) (qs : List Queue) (n now : ℕ) (bytes : List ℕ) (mid after : List Queue) → Step all past rest opening k qs (Hears n now bytes) mid after → FindsTold qs n bytes mid → OpsAfter (Hears n now bytes) k (happens k (Hears n now bytes)).core.ops
     → (p : ℕ) (o : Op) → slice_get (happens k (Hears n now bytes)).core.ops p ≡ Some o → TellsLease (book_at opening (happens k (Hears n now bytes)).core all) (moment k (Hears n now bytes)) o
@@ -238,7 +241,7 @@ leased_hears fits all past rest opening k qs n now bytes mid after s told grown 
     h = heard_at (book_at opening k all) k qs n now bytes mid s.kept told
 
     x_is : IsSession (book_at opening k all) k.seats k.server n h.session h.queue
-    x_is = s.kept.sessions n h.session h.queue h.at h.queue_is
+    x_is = s.kept.sessions n h.session h.queue h.at h.queue_is (has_owner k.seats h.session h.seat h.owner)
 
     xid_is : (a : ℕ) (b : Body) → message.Answer a b ≡ lease_told x l → a ≡ x
     xid_is a b e = cc
@@ -255,7 +258,7 @@ leased_hears fits all past rest opening k qs n now bytes mid after s told grown 
         let answer = subst (λ z. AnswerOf (book_at opening k all) h.session.taken h.session.closing (Some w.of) z h.told.reply) xid answer in
         let old = leased_by (book_at opening k all) k h.session.taken h.session.closing w.of (moment k (Hears n now bytes)) w.old x l h.told.reply refl (omega arith) (ap (slice_get k.ops) w.place ∙ w.was) w.file w.asking (body_is h.told.xid (reply_body h.told.reply) same) answer in
         subst (λ z. LeasedAt (book_at opening (happens k (Hears n now bytes)).core all) z (moment k (Hears n now bytes)) x l.version) (sym w.is)
-        (leased_after (book_at opening k all) (book_at opening (happens k (Hears n now bytes)).core all) w.old (got_step h.seat.client (Ok (lease_told x l)) now).0 (session_taken (session_of k.sessions h.seat.session)) k.steps (got_step h.seat.client (Ok (lease_told x l)) now).1 (moment k (Hears n now bytes)) x l.version w.finds (same_version k (Hears n now bytes)) (λ z c. c) (λ f q lt. counted_so (book_at opening k all) (book_at opening (happens k (Hears n now bytes)).core all) f q refl (same_versions k (Hears n now bytes) (happens k (Hears n now bytes)).core.ops grown f q lt)) (omega arith) old)
+        (leased_after (book_at opening k all) (book_at opening (happens k (Hears n now bytes)).core all) w.old (got_step h.seat.client (Ok (lease_told x l)) now).0 (session_taken (session_of k.sessions h.seat.session)) k.steps (got_step h.seat.client (Ok (lease_told x l)) now).1 (moment k (Hears n now bytes)) x l.version w.finds (same_version k (Hears n now bytes)) (λ z c. c) (λ f q lt. counted_so (book_at opening k all) (book_at opening (happens k (Hears n now bytes)).core all) f q refl (versions_all k (Hears n now bytes) (happens k (Hears n now bytes)).core.ops grown f q lt)) (omega arith) old)
 
 -- and its operation has its file
 shut_hears : FitLaws → (all past rest : List Moment) (opening : List Opening) (k : Core) (qs : List Queue) (n now : ℕ) (bytes : List ℕ) (mid after : List Queue) → Step all past rest opening k qs (Hears n now bytes) mid after → FindsTold qs n bytes mid
@@ -266,7 +269,7 @@ shut_hears fits all past rest opening k qs n now bytes mid after s told p o at x
     h = heard_at (book_at opening k all) k qs n now bytes mid s.kept told
 
     x_is : IsSession (book_at opening k all) k.seats k.server n h.session h.queue
-    x_is = s.kept.sessions n h.session h.queue h.at h.queue_is
+    x_is = s.kept.sessions n h.session h.queue h.at h.queue_is (has_owner k.seats h.session h.seat h.owner)
 
     xid_is : (a : ℕ) (b : Body) → message.Answer a b ≡ lease_told x l → a ≡ x
     xid_is a b e = cc
@@ -333,11 +336,15 @@ shut_stays book k qs e ops m kept le (inr (inr (inr (inr s)))) h p o at = elim (
 ]
 
 -- what is past stays
-pub leased_stays : (book more : Book) (k : Core) (qs : List Queue) (e : Event) (m : Moment) → IsKept book k qs → step_of m ≤ k.steps → OpsAfter e k more.ops → more.opening ≡ book.opening → more.lbfs ≡ book.lbfs → ((z : Moment) → Contains book.moments z → Contains more.moments z) → ((p : ℕ) (o : Op) → slice_get k.ops p ≡ Some o → TellsLease book m o) → ((p : ℕ) (o : Op) → slice_get k.ops p ≡ Some o → HasFile m o) → (p : ℕ) (o : Op) → slice_get more.ops p ≡ Some o → TellsLease more m o
-leased_stays book more k qs e m kept le grown opening speak there h shut p o at = by grown
+pub leased_stays : (book more : Book) (k : Core) (qs : List Queue) (e : Event) (m : Moment) → IsKept book k qs → step_of m ≤ k.steps → OpsAfter e k more.ops → more.opening ≡ book.opening → more.raws ≡ (happens k e).core.raws → more.lbfs ≡ book.lbfs → ((z : Moment) → Contains book.moments z → Contains more.moments z) → ((p : ℕ) (o : Op) → slice_get k.ops p ≡ Some o → TellsLease book m o) → ((p : ℕ) (o : Op) → slice_get k.ops p ≡ Some o → HasFile m o) → (p : ℕ) (o : Op) → slice_get more.ops p ≡ Some o → TellsLease more m o
+leased_stays book more k qs e m kept le grown opening raws speak there h shut p o at = by grown
   where
     versions : (f q : ℕ) → q ≤ k.steps → version_at more f q ≡ version_at book f q
-    versions f q lt = counted_so book more f q opening (same_versions k e more.ops grown f q lt ∙ ap (λ (z : List Op). version_in z f q) (sym kept.ops))
+    versions f q lt = counted_so book more f q opening (
+        ap (λ (z : List Raw). version_in (more.ops ++ map op_of z) f q) raws
+        ∙ versions_all k e more.ops grown f q lt
+        ∙ sym (ap (λ (z : List Op). version_in (z ++ map op_of book.raws) f q) kept.ops ∙ ap (λ (z : List Raw). version_in (k.ops ++ map op_of z) f q) kept.raws)
+        )
 
     still : (o : Op) → TellsLease book m o → TellsLease more m o
     still o h x l mine c = leased_as book more o o m x l.version k.steps speak there refl refl refl versions (omega (arith, le)) (h x l mine c)

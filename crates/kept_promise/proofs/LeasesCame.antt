@@ -3,6 +3,7 @@ use Rattle.std.proofs.Common.{◌≡◌, ◌⊎◌, inl, inr, ℕ, zero, suc, �
 use Rattle.std.specs.Prelude.{◌==◌, not, max, filter, nat_lt, slice_get, Contains, if◌then◌else◌}
 use Rattle.wire.specs.Parse.{parse_of}
 use Rattle.wire.specs.declared.fault.WireFault.{WireFault}
+use Rattle.wire.specs.declared.fault.WireFault.TheVariants as fault
 use Rattle.wire.specs.declared.message.Body.{Body}
 use Rattle.wire.specs.declared.message.Message.{Message}
 use Rattle.wire.specs.declared.message.Message.TheVariants as message
@@ -32,9 +33,9 @@ use Rattle.server_core.specs.declared.change.Wanted.{Wanted}
 use Rattle.server_core.specs.declared.change.Wanted.TheVariants as wanted
 use Rattle.server_core.specs.declared.event.Sent.{Sent}
 use Rattle.server_core.specs.declared.event.ServerStep.{ServerStep}
-use Rattle.trace_ends.specs.Core.{server_waiting}
+use Rattle.trace_ends.specs.Core.{server_waiting, serves_none}
 use Rattle.trace_replay.specs.PendingChanges.{Move, move_of, reading_of, KeepsTime, recall_of, file_leased, IsContent, IsGranted, IsAskedFor, LeasesCome}
-use Rattle.kept_promise.proofs.Common.{Core, CoreStep, Session, Event, Event.Joins, Event.Does, Event.Serves, Event.Hears, Event.Settles, Event.Cuts, Event.Hangs, happens, serves, serves_if, numbered, server_waits, Book, Queue}
+use Rattle.kept_promise.proofs.Common.{Core, CoreStep, Session, Event, Event.Joins, Event.Does, Event.Serves, Event.Hears, Event.Settles, Event.Cuts, Event.Hangs, happens, serves, serves_if, numbered, server_waits, Book, Queue, Event.RawJoins, serves_unless}
 use Rattle.kept_promise.proofs.CallsAlike.{call_read}
 use Rattle.kept_promise.proofs.Facts.{IsKept}
 use Rattle.kept_promise.proofs.Happens.{what_happens}
@@ -44,7 +45,7 @@ use Rattle.kept_promise.proofs.Lists.{some_is, of_both}
 use Rattle.kept_promise.proofs.MadeRuns.{Leaves, leaves_ready}
 use Rattle.kept_promise.proofs.lemmas.Owners.{happens_header}
 use Rattle.kept_promise.proofs.RunsCarried.{moment}
-use Rattle.kept_promise.proofs.Turns.{also_numbered}
+use Rattle.kept_promise.proofs.Turns.{unhung_stands}
 
 -- ---- lists of leases
 
@@ -189,13 +190,29 @@ serves_come k n now bytes ordered = by (numbered k.sessions n)
     got (message.Refuse xid why) read true up = same_come (served n now bytes k.server (got_if_under k.server false true n (message.Refuse xid why) now)) refl
     got (message.Answer xid b) read true up = given xid b (got_if_under k.server false true n (message.Answer xid b) now) (is_recalled b) refl
 
+    still : LeasesCome (record { event = Serves n now bytes; before = k.server; after = k.server; sent = [] })
+    still = same_come (record { event = Serves n now bytes; before = k.server; after = k.server; sent = [] }) refl
+
+    lost : (t : Bool) → LeasesCome (record { event = Serves n now bytes; before = k.server; after = (server_hangs_if k.server t n).0; sent = [] })
+    lost true = same_come (record { event = Serves n now bytes; before = k.server; after = (server_hangs_if k.server true n).0; sent = [] }) refl
+    lost false = same_come (record { event = Serves n now bytes; before = k.server; after = (server_hangs_if k.server false n).0; sent = [] }) refl
+
+    none : (x : Session) (e : WireFault) → ComesServed k n now bytes (serves_none k n x e)
+    none x (fault.UnknownXid xid) = still
+    none x (fault.NotRpc place) = lost (stands k.server n)
+    none x (fault.Garbage place) = lost (stands k.server n)
+
     read_ : (x : Session) (r : Result Message WireFault) → parse_of (server_waits k n) bytes ≡ r → ComesServed k n now bytes (serves_if k n now x r)
     read_ x (Ok m) is = got m is (stands k.server n) refl
-    read_ x (Err e) is = same_come (record { event = Serves n now bytes; before = k.server; after = k.server; sent = [] }) refl
+    read_ x (Err e) is = none x e
+
+    heard : (x : Session) (b : Bool) → ComesServed k n now bytes (serves_unless k n now bytes x b)
+    heard x true = still
+    heard x false = read_ x (parse_of (server_waits k n) bytes) refl
 
     by : (o : Option Session) → ComesServed k n now bytes (serves k n now bytes o)
-    by None = same_come (record { event = Serves n now bytes; before = k.server; after = k.server; sent = [] }) refl
-    by (Some x) = read_ x (parse_of (server_waits k n) bytes) refl
+    by None = still
+    by (Some x) = heard x x.hung
 
 abbrev settled : (now : ℕ) → State → List Sent → State → Move
 settled now s sent t = record { event = Settles now; before = s; after = t; sent = sent }
@@ -227,11 +244,14 @@ rests_same k e served_ settled = what_happens k e (λ t. t.core.server.leasing.l
   joins = λ c seat is. refl;
   refuses = λ c seat is. refl;
   does = λ c now d seat is. refl;
-  takes = λ n now bytes x m is at read. absurd (served_ n now bytes is);
+  takes = λ n now bytes x m is at unhung read. absurd (served_ n now bytes is);
+  closes = λ n now bytes x is at unhung. absurd (served_ n now bytes is);
   hears = λ n now bytes owner seat is. refl;
   settles = λ now is. absurd (settled now is);
   cuts = λ c seat is. refl;
-  hangs = λ n x is at. hung n (stands k.server n);
+  hangs = λ n x is at unhung. hung n (stands k.server n);
+  raw_joins = λ is. refl;
+  raw_refuses = λ is. refl;
 })
   where
     hung : (n : ℕ) (t : Bool) → (server_hangs_if k.server t n).0.leasing.leases ≡ k.server.leasing.leases
@@ -243,8 +263,7 @@ ready_stands : (book : Book) (k : Core) (qs : List Queue) (now : ℕ) → IsKept
 ready_stands book k qs now kept c is =
     let l = subst (Leaves k now) is (leaves_ready book k qs now kept) in
     let home = kept.home l.place c l.there in
-    let q = also_numbered k.sessions qs c.session home.0 kept.made.1 home.1 in
-    (kept.sessions c.session home.0 q.0 home.1 q.1).stands_is ∙ ap not home.2
+    unhung_stands book k qs c.session kept home.0 home.1 ∙ ap not home.2
 
 pub leases_come : (book : Book) (k : Core) (qs : List Queue) (e : Event) → IsKept book k qs → AreOrdered k.server.leasing.leases → LeasesCome (move_of (moment k e))
 leases_come book k qs (Serves n now bytes) kept ordered = serves_come k n now bytes ordered
@@ -254,6 +273,7 @@ leases_come book k qs (Joins c) kept ordered = same_come (move_of (moment k (Joi
 leases_come book k qs (Does c now d) kept ordered = same_come (move_of (moment k (Does c now d))) (rests_same k (Does c now d) (λ n now bytes z. absurd cc) (λ now z. absurd cc))
 leases_come book k qs (Hears n now bytes) kept ordered = same_come (move_of (moment k (Hears n now bytes))) (rests_same k (Hears n now bytes) (λ n now bytes z. absurd cc) (λ now z. absurd cc))
 leases_come book k qs (Cuts c) kept ordered = same_come (move_of (moment k (Cuts c))) (rests_same k (Cuts c) (λ n now bytes z. absurd cc) (λ now z. absurd cc))
+leases_come book k qs RawJoins kept ordered = same_come (move_of (moment k RawJoins)) (rests_same k RawJoins (λ n now bytes z. absurd cc) (λ now z. absurd cc))
 
 -- ---- the server's clock
 
@@ -294,11 +314,14 @@ moment_goes k e = what_happens k e (λ t. Goes k.server.leasing.moment t.core.se
   joins = λ c seat is. inl refl;
   refuses = λ c seat is. inl refl;
   does = λ c now d seat is. inl refl;
-  takes = λ n now bytes x m is at read. goes_to k.server.leasing.moment _ now e (Serves n now bytes) is refl (got_goes k.server (stands k.server n) n now m);
+  takes = λ n now bytes x m is at unhung read. goes_to k.server.leasing.moment _ now e (Serves n now bytes) is refl (got_goes k.server (stands k.server n) n now m);
   hears = λ n now bytes owner seat is. inl refl;
   settles = λ now is. goes_to k.server.leasing.moment _ now e (Settles now) is refl (settle_goes k.server now);
   cuts = λ c seat is. inl refl;
-  hangs = λ n x is at. hung n (stands k.server n);
+  closes = λ n now bytes x is at unhung. hung n (stands k.server n);
+  hangs = λ n x is at unhung. hung n (stands k.server n);
+  raw_joins = λ is. inl refl;
+  raw_refuses = λ is. inl refl;
 })
   where
     hung : (n : ℕ) (t : Bool) → Goes k.server.leasing.moment (server_hangs_if k.server t n).0.leasing.moment (reading_of e)

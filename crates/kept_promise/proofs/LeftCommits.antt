@@ -1,5 +1,5 @@
 -- A session that its client left gets no new call that may change a file, and remembers the operation that it did.
-use Rattle.std.proofs.Common.{◌⊎◌, inl, inr, ◌≡◌, ℕ, zero, suc, ◌+◌, ◌≤◌, List, [], ◌∷◌, ◌++◌, length, Option, Some, None, Bool, true, false, refl, sym, ap, ◌∙◌, subst, arith, append-nil, map, Ok}
+use Rattle.std.proofs.Common.{◌⊎◌, inl, inr, ◌≡◌, ℕ, zero, suc, ◌+◌, ◌≤◌, List, [], ◌∷◌, ◌++◌, length, Option, Some, None, Bool, true, false, refl, sym, ap, ◌∙◌, subst, arith, append-nil, map, Ok, Result, Err}
 use Rattle.std.proofs.lemmas.List.{length-append}
 use Rattle.tree_reading.specs.Tree.{Tree}
 use Rattle.tree_calls.specs.Waiting.{some}
@@ -10,20 +10,21 @@ use Rattle.server_core.specs.Step.{asks_tree}
 use Rattle.server_core.specs.Closing as closing
 use Rattle.server_core.specs.Step as stepping
 use Rattle.client_state.specs.State as client
+use Rattle.wire.specs.declared.fault.WireFault.TheVariants as fault
 use Rattle.register_model.specs.declared.op.Word.TheVariants as words
 use Rattle.server_core.specs.declared.event.ServerStep.{ServerStep}
 use Rattle.path_calls.specs.Walk.{begun}
 use Rattle.path_calls.specs.declared.walk.Walk.{Walk}
 use Rattle.client_state.specs.View.{walk_left}
-use Rattle.kept_promise.proofs.Common.{reply_message, nat_lt, ◌&&◌, not, cond, filter, ◌==◌, Command, parse_of, got_if, stands, connect, has_room, FileChange, may_ask, command_step, ended_by, ClientStep, Ended, Task, Opening, Word, word_of, Core, Seat, Session, Event, Event.Joins, Event.Does, Event.Serves, Event.Hears, Event.Settles, Event.Cuts, Event.Hangs, CoreStep, numbered, with_numbered, server_waits, session_of, serves_if, serves, is_newest, hears_if, hears_at, hears, commanded_session, commanded_sessions, does, joins_as, joins, settles, cut_session, cuts_if, cuts, hangs_if, hangs, happens, closing_with, Moment, unless, Call, Call.Commit, Ask, Told, Queue, ask_message, Loss, Loss.Nothing, Loss.Down_of, Loss.Up_of, no_queue, Call.Walks, has_waiting, Book}
+use Rattle.kept_promise.proofs.Common.{reply_message, nat_lt, ◌&&◌, not, cond, filter, ◌==◌, Command, parse_of, got_if, stands, connect, has_room, FileChange, may_ask, command_step, ended_by, ClientStep, Ended, Task, Opening, Word, word_of, Core, Seat, Session, Event, Event.Joins, Event.Does, Event.Serves, Event.Hears, Event.Settles, Event.Cuts, Event.Hangs, CoreStep, numbered, with_numbered, server_waits, session_of, serves_if, serves, is_newest, hears_if, hears_at, hears, commanded_session, commanded_sessions, does, joins_as, joins, settles, cut_session, cuts_if, cuts, hangs_if, hangs, happens, closing_with, Moment, unless, Call, Call.Commit, Ask, Told, Queue, ask_message, Loss, Loss.Nothing, Loss.Down_of, Loss.Up_of, no_queue, Call.Walks, has_waiting, Book, is_raw, WireFault, Message, serves_unless, loses, raw_joins, raw_joins_as, raw_session, Event.RawJoins}
 use Rattle.kept_promise.proofs.StepCases.{command_cases}
 use Rattle.kept_promise.proofs.CallsKeep.{IsByCommit, is_of_files, Waits, got_if_keeps, makes_call, walk_made}
 use Rattle.kept_promise.proofs.Statements.{CallFits}
-use Rattle.kept_promise.proofs.Lists.{some_is, nothing_there, same_or_not, set_count, of_appended, of_replaced, true_and_false, AllOf, all_at}
+use Rattle.kept_promise.proofs.Lists.{some_is, nothing_there, same_or_not, set_count, true_and_false, AllOf, all_at}
 use Rattle.kept_promise.proofs.Keys.{own}
 use Rattle.kept_promise.proofs.Messages.{AllAsks}
 use Rattle.kept_promise.proofs.Fits.{FitLaws}
-use Rattle.kept_promise.proofs.Turns.{also_numbered, numbered_within}
+use Rattle.kept_promise.proofs.Turns.{also_numbered, numbered_within, owned_up, owned_down, unhung_up, unnoted}
 use Rattle.kept_promise.proofs.Facts.{IsKept, commits_in, change_number}
 use Rattle.kept_promise.proofs.Leading.{Sends, ups_put_in, ups_put, downs_put_in, downs_put, downs_lost, ups_lost, queues_lost, queues_after}
 use Rattle.kept_promise.proofs.RunsCarried.{book_at, Finds, FindsAsk, Step}
@@ -36,24 +37,15 @@ use Rattle.kept_promise.proofs.Makings.{called_making}
 use Rattle.kept_promise.proofs.PathNames.{IsWalkSmall, is_building, is_going, is_creating, making_is, going_creates}
 use Rattle.kept_promise.proofs.Departures.{comes_by, called_going}
 use Rattle.kept_promise.proofs.GoingSteps.{coming}
-use Rattle.trace_ends.specs.Core.{Loss.Made, idles}
+use Rattle.trace_ends.specs.Core.{Loss.Made, idles, serves_none}
+use Rattle.kept_promise.proofs.AnyCall.{any_waits}
+use Rattle.kept_promise.proofs.Places.{of_with, of_more}
 
 -- ---- the queues after an event
 
 -- each queue has this
 abbrev pub QueuesHave : (ℕ → Queue → Type 0) → List Queue → Type 0
 QueuesHave P qs = (n : ℕ) (q : Queue) → numbered qs n ≡ Some q → P n q
-
--- what stands at a number of a list with another there is that one, or was there
-of_with : {A : Type 0} (xs : List A) (m n : ℕ) (y z : A) → numbered (with_numbered xs m y) n ≡ Some z → ((n ≡ m) × (z ≡ y)) ⊎ (numbered xs n ≡ Some z)
-of_with xs zero n y z e = inr e
-of_with xs (suc m) zero y z e = nothing_there z e
-of_with xs (suc m) (suc n) y z e = elim (of_replaced xs m y n z e) [ inl h ↦ inl (ap suc h.0, h.1) | inr h ↦ inr h.1 ]
-
--- and of one with one more
-of_more : {A : Type 0} (xs : List A) (n : ℕ) (y z : A) → numbered (xs ++ y ∷ []) n ≡ Some z → ((n ≡ suc (length xs)) × (z ≡ y)) ⊎ (numbered xs n ≡ Some z)
-of_more xs zero y z e = nothing_there z e
-of_more xs (suc n) y z e = elim (of_appended xs y n z e) [ inl h ↦ inl (ap suc h.0, h.1) | inr h ↦ inr h ]
 
 pub have_with : (P : ℕ → Queue → Type 0) (qs : List Queue) (m : ℕ) (r : Queue) → QueuesHave P qs → P m r → QueuesHave P (with_numbered qs m r)
 have_with P qs m r h p n q e = elim (of_with qs m n r q e) [
@@ -101,12 +93,14 @@ pub taken_off : (P : ℕ → Queue → Type 0) (k : Core) (qs mid : List Queue) 
 taken_off P k qs mid (Joins c) up down f h = subst (QueuesHave P) (sym f.5) h
 taken_off P k qs mid (Does c now d) up down f h = subst (QueuesHave P) (sym f.3) h
 taken_off P k qs mid (Serves n now bytes) up down (inl f) h = subst (QueuesHave P) (sym f.6) (have_with P qs n (record f.0 { ups = f.2 }) h (up n f.0 f.1 f.2 f.4 (h n f.0 f.3)))
-taken_off P k qs mid (Serves n now bytes) up down (inr f) h = subst (QueuesHave P) (sym f.mid_is) h
+taken_off P k qs mid (Serves n now bytes) up down (inr (inl f)) h = subst (QueuesHave P) (sym f.mid_is) h
+taken_off P k qs mid (Serves n now bytes) up down (inr (inr f)) h = subst (QueuesHave P) (sym f.3) h
 taken_off P k qs mid (Hears n now bytes) up down (inl f) h = subst (QueuesHave P) (sym f.6) (have_with P qs n (record f.0 { downs = f.2 }) h (down n f.0 f.1 f.2 f.4 (h n f.0 f.3)))
 taken_off P k qs mid (Hears n now bytes) up down (inr f) h = subst (QueuesHave P) (sym f.mid_is) h
 taken_off P k qs mid (Settles now) up down f h = subst (QueuesHave P) (sym f) h
 taken_off P k qs mid (Cuts c) up down f h = subst (QueuesHave P) (sym f.2) h
 taken_off P k qs mid (Hangs n) up down f h = subst (QueuesHave P) (sym f.2) h
+taken_off P k qs mid RawJoins up down f h = subst (QueuesHave P) (sym f.2) h
 
 -- ---- a client that isn't joined sends nothing, and answers at once
 
@@ -217,12 +211,16 @@ own_filter n m (c ∷ ws) = by (c.session == m) (own_filter n m ws)
 
 -- ---- what an event leaves of a session that its client left
 
+-- its client left it: it isn't one that never was a client's
+abbrev pub IsLeft : Session → Type 0
+IsLeft y = (is_raw y ≡ false) × (y.cut ≡ true)
+
 -- it was there, and remembers the same close
 abbrev pub SessionWas : Core → (n : ℕ) → Session → Type 0
 SessionWas k n y = (x : Session) × (numbered k.sessions n ≡ Some x) × (y.closing ≡ x.closing)
 
 abbrev pub SessionsWere : Core → List Session → Type 0
-SessionsWere k sessions = (n : ℕ) (y : Session) → numbered sessions n ≡ Some y → y.cut ≡ true → SessionWas k n y
+SessionsWere k sessions = (n : ℕ) (y : Session) → numbered sessions n ≡ Some y → IsLeft y → SessionWas k n y
 
 were_same : (k : Core) → SessionsWere k k.sessions
 were_same k n y at gone = (y, at, refl)
@@ -239,14 +237,14 @@ CommitsWere k qs after n r = (q : Queue) × (numbered qs n ≡ Some q) × (commi
 
 -- of each session that its client left
 abbrev LeftSo : Core → List Queue → Core → (n : ℕ) → Queue → Type 0
-LeftSo k qs after n r = (y : Session) → numbered after.sessions n ≡ Some y → y.cut ≡ true → CommitsWere k qs after.server.waiting n r
+LeftSo k qs after n r = (y : Session) → numbered after.sessions n ≡ Some y → IsLeft y → CommitsWere k qs after.server.waiting n r
 
 -- what an event is to show
 pub record Leaves (k : Core) (qs mid : List Queue) (t : CoreStep) : Type 0 where
   pub were : SessionsWere k t.core.sessions
   count : length mid ≡ length qs
   taken : QueuesHave (LeftSo k qs t.core) mid
-  pub quiet : (n : ℕ) (y : Session) → t.session ≡ Some n → numbered t.core.sessions n ≡ Some y → y.cut ≡ true → t.up ≡ []
+  pub quiet : (n : ℕ) (y : Session) → t.session ≡ Some n → numbered t.core.sessions n ≡ Some y → IsLeft y → t.up ≡ []
 
 pub no_asks : (rs : List ℕ) (us : List Ask) → [] ≡ map reply_message rs ++ map ask_message us → us ≡ []
 no_asks [] [] e = refl
@@ -281,14 +279,18 @@ no_less k after same n = let e = ap (λ ws. length (own n ws)) same in omega (ar
 leaves_plain : (k : Core) (qs mid : List Queue) (t : CoreStep) → SessionsWere k t.core.sessions → mid ≡ qs → t.session ≡ None → ((n : ℕ) → length (own n t.core.server.waiting) ≤ length (own n k.server.waiting)) → Leaves k qs mid t
 leaves_plain k qs mid t were same none less = record { were = were; count = ap (λ (l : List Queue). length l) same; taken = taken_none k qs mid t same less; quiet = λ n y is at gone. nothing_there n (sym none ∙ is) }
 
+-- what is noted of messages that came is nothing of it
+leaves_noted : (k : Core) (qs mid : List Queue) (t : CoreStep) → Leaves k qs mid (unnoted k t) → Leaves k qs mid t
+leaves_noted k qs mid t h = record { were = h.were; count = h.count; taken = h.taken; quiet = h.quiet }
+
 -- ---- each event
 
 leaves_joins : (k : Core) (qs mid : List Queue) (c : ℕ) → mid ≡ qs → Leaves k qs mid (joins k c (numbered k.seats c))
 leaves_joins k qs mid c same = by (numbered k.seats c)
   where
-    new_apart : (n m : ℕ) (y : Session) → ((n ≡ suc (length k.sessions)) × (y ≡ Rattle.trace_ends.specs.Session.new_session m)) ⊎ (numbered k.sessions n ≡ Some y) → y.cut ≡ true → SessionWas k n y
+    new_apart : (n m : ℕ) (y : Session) → ((n ≡ suc (length k.sessions)) × (y ≡ Rattle.trace_ends.specs.Session.new_session m)) ⊎ (numbered k.sessions n ≡ Some y) → IsLeft y → SessionWas k n y
     new_apart n m y (inr was) gone = (y, was, refl)
-    new_apart n m y (inl new) gone = absurd (not_true (sym (ap (λ (z : Session). z.cut) new.1) ∙ gone))
+    new_apart n m y (inl new) gone = absurd (not_true (sym (ap (λ (z : Session). z.cut) new.1) ∙ gone.1))
       where
         not_true : false ≡ true → ⊥
         not_true e = absurd cc
@@ -301,16 +303,20 @@ leaves_joins k qs mid c same = by (numbered k.seats c)
     by None = leaves_plain k qs mid _ (were_same k) same refl (λ n. omega arith)
     by (Some seat) = by_room seat (has_room k.server)
 
-leaves_hangs : (k : Core) (qs mid : List Queue) (m : ℕ) → mid ≡ qs → Leaves k qs mid (hangs k m (numbered k.sessions m))
-leaves_hangs k qs mid m same = by (numbered k.sessions m) refl
+-- the server loses a session, or closes it
+leaves_loses : (k : Core) (qs mid : List Queue) (m : ℕ) (x : Session) → mid ≡ qs → numbered k.sessions m ≡ Some x → Leaves k qs mid (loses k m x)
+leaves_loses k qs mid m x same at = leaves_plain k qs mid (loses k m x) (were_with k m x (record x { hung = true }) at refl) same refl (less (stands k.server m))
   where
     less : (b : Bool) (n : ℕ) → length (own n (stepping.hangs_if k.server b m).0.waiting) ≤ length (own n k.server.waiting)
     less true n = own_filter n m k.server.waiting
     less false n = omega arith
 
+leaves_hangs : (k : Core) (qs mid : List Queue) (m : ℕ) → mid ≡ qs → Leaves k qs mid (hangs k m (numbered k.sessions m))
+leaves_hangs k qs mid m same = by (numbered k.sessions m) refl
+  where
     by_hung : (x : Session) → numbered k.sessions m ≡ Some x → (b : Bool) → Leaves k qs mid (hangs_if k m x b)
     by_hung x at true = leaves_plain k qs mid _ (were_same k) same refl (λ n. omega arith)
-    by_hung x at false = leaves_plain k qs mid _ (were_with k m x (record x { hung = true }) at refl) same refl (less (stands k.server m))
+    by_hung x at false = leaves_loses k qs mid m x same at
 
     by : (o : Option Session) → numbered k.sessions m ≡ o → Leaves k qs mid (hangs k m o)
     by None at = leaves_plain k qs mid _ (were_same k) same refl (λ n. omega arith)
@@ -355,7 +361,7 @@ leaves_does : (opening : List Opening) (all : List Moment) (k : Core) (qs mid : 
 leaves_does opening all k qs mid c now d kept same = by (numbered k.seats c) refl
   where
     by_session : (seat : Seat) → numbered k.seats c ≡ Some seat → (o : Option ℕ) → seat.session ≡ o → (z : Option Session) → session_of k.sessions o ≡ z
-        → SessionsWere k (commanded_sessions k.sessions o z seat.place (length k.ops) (word_of d) (command_step seat.client d now).1) × ((n : ℕ) (y : Session) → o ≡ Some n → numbered (commanded_sessions k.sessions o z seat.place (length k.ops) (word_of d) (command_step seat.client d now).1) n ≡ Some y → y.cut ≡ true → (command_step seat.client d now).1.send ≡ [])
+        → SessionsWere k (commanded_sessions k.sessions o z seat.place (length k.ops) (word_of d) (command_step seat.client d now).1) × ((n : ℕ) (y : Session) → o ≡ Some n → numbered (commanded_sessions k.sessions o z seat.place (length k.ops) (word_of d) (command_step seat.client d now).1) n ≡ Some y → IsLeft y → (command_step seat.client d now).1.send ≡ [])
     by_session seat here None e z f = (were_same k, λ n y is at gone. nothing_there n is)
     by_session seat here (Some m) e None f = (were_same k, λ n y is at gone. nothing_there y (sym f ∙ ap (numbered k.sessions) (some_is m n is) ∙ at))
     by_session seat here (Some m) e (Some x) f =
@@ -364,13 +370,13 @@ leaves_does opening all k qs mid c now d kept same = by (numbered k.seats c) ref
           λ n y at gone. elim (of_with k.sessions m n z y at) [
             | inr was ↦ (y, was, refl)
             | inl new ↦
-                let off = left_off opening all k qs c m seat x kept here e f (sym (ap (λ (v : Session). v.cut) new.1) ∙ gone) in
+                let off = left_off opening all k qs c m seat x kept here e f (sym (ap (λ (v : Session). v.cut) new.1) ∙ gone.1) in
                 let end = (command_silent seat.client d now off).1 in
                 (x, ap (numbered k.sessions) new.0 ∙ f, ap (λ (v : Session). v.closing) new.1 ∙ closing_stays x.closing (length k.ops) (word_of d) acts.ended end.0 end.1)
           ],
           λ n y is at gone. elim (of_with k.sessions m n z y at) [
-            | inl new ↦ (command_silent seat.client d now (left_off opening all k qs c m seat x kept here e f (sym (ap (λ (v : Session). v.cut) new.1) ∙ gone))).0
-            | inr was ↦ (command_silent seat.client d now (left_off opening all k qs c n seat y kept here (e ∙ is) was gone)).0
+            | inl new ↦ (command_silent seat.client d now (left_off opening all k qs c m seat x kept here e f (sym (ap (λ (v : Session). v.cut) new.1) ∙ gone.1))).0
+            | inr was ↦ (command_silent seat.client d now (left_off opening all k qs c n seat y kept here (e ∙ is) was gone.1)).0
           ],
         )
 
@@ -393,7 +399,7 @@ leaves_heard k qs mid m now bytes count_with heard full = by (numbered k.session
       were = were_same k;
       count = count_with;
       taken = heard (hears_if k x.owner now seat bytes true) refl;
-      quiet = λ n y is there gone. absurd (full y (ap (numbered k.sessions) (newest seat.session n is e) ∙ there) gone);
+      quiet = λ n y is there gone. absurd (full y (ap (numbered k.sessions) (newest seat.session n is e) ∙ there) gone.1);
     }
       where
         newest : (o : Option ℕ) (n : ℕ) → o ≡ Some n → is_newest o m ≡ true → m ≡ n
@@ -426,7 +432,7 @@ leaves_hears opening all k qs mid m now bytes kept (inl f) = leaves_heard k qs m
     full x at gone = none (sym (sym f.4 ∙ z))
       where
         z : f.0.downs ≡ []
-        z = (kept.sessions m x f.0 at f.3).shut gone
+        z = (kept.sessions m x f.0 at f.3 (owned_down kept m x f.0 at f.3 f.1 f.2 f.4)).shut gone
 
         none : [] ≡ f.1 ∷ f.2 → ⊥
         none e = absurd cc
@@ -435,10 +441,10 @@ leaves_hears opening all k qs mid m now bytes kept (inl f) = leaves_heard k qs m
 leaves_serves : FitLaws → (opening : List Opening) (all : List Moment) (k : Core) (qs mid : List Queue) (m now : ℕ) (bytes : List ℕ) → IsKept (book_at opening k all) k qs → FindsAsk qs m bytes mid → Leaves k qs mid (serves k m now bytes (numbered k.sessions m))
 leaves_serves laws opening all k qs mid m now bytes kept f =
     let x = also_numbered qs k.sessions m f.0 (sym kept.made.1) f.3 in
-    let s = kept.sessions m x.0 f.0 x.1 f.3 in
+    let s = kept.sessions m x.0 f.0 x.1 f.3 (owned_up kept m x.0 f.0 x.1 f.3 f.1 f.2 f.4) in
     let fits : AllAsks (λ a. CallFits a.lbfs a.xid a.call) (f.1 ∷ f.2) = subst (AllAsks (λ a. CallFits a.lbfs a.xid a.call)) f.4 s.ups_fit in
     let parsed : parse_of (server_waits k m) bytes ≡ Ok (ask_message f.1) = ap (parse_of (server_waits k m)) f.5 ∙ parsed_at laws k m f.1 fits.0 in
-    let got_as : serves k m now bytes (Some x.0) ≡ serves_if k m now x.0 (Ok (ask_message f.1)) = ap (serves_if k m now x.0) parsed in
+    let got_as : serves k m now bytes (Some x.0) ≡ serves_if k m now x.0 (Ok (ask_message f.1)) = ap (serves_unless k m now bytes x.0) (unhung_up kept m x.0 f.0 x.1 f.3 f.1 f.2 f.4) ∙ ap (serves_if k m now x.0) parsed in
     subst (λ (o : Option Session). Leaves k qs mid (serves k m now bytes o)) (sym x.1) (subst (Leaves k qs mid) (sym got_as) (by x.0 x.1 (got_waits k.server m now f.1 (stands k.server m) fits.0)))
   where
     with_count : (xs : List Queue) (i : ℕ) (x : Queue) → length (with_numbered xs i x) ≡ length xs
@@ -477,19 +483,72 @@ leaves_serves laws opening all k qs mid m now bytes kept f =
           quiet = λ n y is there gone. nothing_there n is;
         }
 
+-- what comes on a session that is no client's is nothing of any that a client left
+leaves_raw : (k : Core) (qs mid : List Queue) (m now : ℕ) (bytes : List ℕ) (x : Session) → numbered k.sessions m ≡ Some x → is_raw x ≡ true → mid ≡ qs → Leaves k qs mid (serves k m now bytes (Some x))
+leaves_raw k qs mid m now bytes x at raw same = by x.hung
+  where
+    none : (e : WireFault) → Leaves k qs mid (serves_none k m x e)
+    none (fault.UnknownXid xid) = leaves_plain k qs mid _ (were_same k) same refl (λ n. omega arith)
+    none (fault.NotRpc place) = leaves_loses k qs mid m x same at
+    none (fault.Garbage place) = leaves_loses k qs mid m x same at
+
+    -- a change more is that session's
+    else_less : (n : ℕ) (ws : List FileChange) → (n ≡ m → ⊥) → Waits k.server.waiting m (λ d. Unit {0}) ws → length (own n ws) ≤ length (own n k.server.waiting)
+    else_less n ws apart (inl e) = let w = ap (λ l. length (own n l)) e in omega (arith, w)
+    else_less n ws apart (inr c) = let w = ap (λ l. length (own n l)) c.2 in let o = ap (λ (l : List FileChange). length l) (own_there n k.server.waiting c.0 (λ e. apart (sym e ∙ c.1))) in omega (arith, w, o)
+
+    read : (r : Result Message WireFault) → Leaves k qs mid (serves_if k m now x r)
+    read (Err e) = none e
+    read (Ok message_) =
+        let t = serves_if k m now x (Ok message_) in
+        let waits = any_waits k.server m message_ now (stands k.server m) in
+        record {
+          were = were_with k m x _ at refl;
+          count = ap (λ (l : List Queue). length l) same;
+          taken = λ n r is y there gone. elim (same_or_not n m) [
+            | inr apart ↦ let le = else_less n t.core.server.waiting apart waits in (r, ap (λ (l : List Queue). numbered l n) (sym same) ∙ is, omega (arith, le))
+            | inl here ↦ elim (of_with k.sessions m n _ y there) [
+              | inl new ↦ absurd (true_and_false (is_raw y) (ap is_raw new.1 ∙ raw) gone.0)
+              | inr was ↦ absurd (true_and_false (is_raw y) (ap is_raw (some_is y x (sym was ∙ ap (numbered k.sessions) here ∙ at)) ∙ raw) gone.0)
+            ]
+          ];
+          quiet = λ n y is there gone. nothing_there n is;
+        }
+
+    by : (b : Bool) → Leaves k qs mid (serves_unless k m now bytes x b)
+    by true = leaves_plain k qs mid _ (were_same k) same refl (λ n. omega arith)
+    by false = read (parse_of (server_waits k m) bytes)
+
+-- nor is such a session that is made
+leaves_raw_joins : (k : Core) (qs mid : List Queue) → mid ≡ qs → Leaves k qs mid (raw_joins k)
+leaves_raw_joins k qs mid same = by_room (has_room k.server)
+  where
+    new_apart : (n : ℕ) (y : Session) → ((n ≡ suc (length k.sessions)) × (y ≡ raw_session)) ⊎ (numbered k.sessions n ≡ Some y) → IsLeft y → SessionWas k n y
+    new_apart n y (inr was) gone = (y, was, refl)
+    new_apart n y (inl new) gone = absurd (true_and_false (is_raw y) (ap is_raw new.1) gone.0)
+
+    by_room : (b : Bool) → (let r = connect k.server b in Leaves k qs mid (raw_joins_as k r.0 r.1.told))
+    by_room true = leaves_plain k qs mid _ (λ n y at gone. new_apart n y (of_more k.sessions n raw_session y at) gone) same refl (λ n. omega arith)
+    by_room false = leaves_plain k qs mid _ (were_same k) same refl (λ n. omega arith)
+
 pub leaves : FitLaws → (opening : List Opening) (all : List Moment) (k : Core) (qs mid : List Queue) (e : Event) → IsKept (book_at opening k all) k qs → Finds k qs e mid → Leaves k qs mid (happens k e)
 leaves laws opening all k qs mid (Joins c) kept f = leaves_joins k qs mid c f.5
 leaves laws opening all k qs mid (Does c now d) kept f = leaves_does opening all k qs mid c now d kept f.3
 leaves laws opening all k qs mid (Serves n now bytes) kept (inl f) = leaves_serves laws opening all k qs mid n now bytes kept f
-leaves laws opening all k qs mid (Serves n now bytes) kept (inr f) = subst (Leaves k qs mid) (sym (reply_taken laws k qs n now bytes mid f).1) (leaves_plain k qs mid (idles (record k { server = record k.server { leasing = (reply_taken laws k qs n now bytes mid f).0 } })) (were_same k) f.mid_is refl (λ n. omega arith))
+leaves laws opening all k qs mid (Serves n now bytes) kept (inr (inl f)) = elim (reply_taken laws k qs n now bytes mid f) [
+  | inl taken ↦ leaves_noted k qs mid _ (subst (Leaves k qs mid) (sym taken.1) (leaves_plain k qs mid (idles (record k { server = record k.server { leasing = taken.0 } })) (were_same k) f.mid_is refl (λ m. omega arith)))
+  | inr lost ↦ subst (Leaves k qs mid) (sym lost) (leaves_loses k qs mid n f.session f.mid_is f.at)
+]
+leaves laws opening all k qs mid (Serves n now bytes) kept (inr (inr f)) = subst (λ (o : Option Session). Leaves k qs mid (serves k n now bytes o)) (sym f.1) (leaves_raw k qs mid n now bytes f.0 f.1 f.2 f.3)
 leaves laws opening all k qs mid (Hears n now bytes) kept f = leaves_hears opening all k qs mid n now bytes kept f
 leaves laws opening all k qs mid (Settles now) kept f = leaves_settles (book_at opening k all) k qs mid now kept f
 leaves laws opening all k qs mid (Cuts c) kept f = leaves_cuts k qs mid c f.2
 leaves laws opening all k qs mid (Hangs n) kept f = leaves_hangs k qs mid n f.2
+leaves laws opening all k qs mid RawJoins kept f = leaves_raw_joins k qs mid f.2
 
 -- A session that its client left was there before, with the same close, and no more COMMITTMPs are on its way, or wait, than then.
 pub commits_left : FitLaws → (all past rest : List Moment) (opening : List Opening) (k : Core) (qs : List Queue) (e : Event) (mid after : List Queue) → Step all past rest opening k qs e mid after
-    → (n : ℕ) (y : Session) (r : Queue) → numbered (happens k e).core.sessions n ≡ Some y → numbered after n ≡ Some r → y.cut ≡ true
+    → (n : ℕ) (y : Session) (r : Queue) → numbered (happens k e).core.sessions n ≡ Some y → numbered after n ≡ Some r → IsLeft y
     → (x : Session) × (q : Queue) × (numbered k.sessions n ≡ Some x) × (numbered qs n ≡ Some q) × (y.closing ≡ x.closing) × (commits_in r.ups + length (own n (happens k e).core.server.waiting) ≤ commits_in q.ups + length (own n k.server.waiting))
 commits_left laws all past rest opening k qs e mid after s n y r at is gone =
     let l = leaves laws opening all k qs mid e s.kept s.finds in

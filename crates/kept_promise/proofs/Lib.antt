@@ -214,6 +214,7 @@ pub mod SentUp
 pub mod NameAnswers
 pub mod RefusedCalls
 pub mod EntriesGrow
+pub mod AnyCall
 pub mod Awaiting
 pub mod SameVersion
 pub mod Leases
@@ -226,6 +227,7 @@ pub mod Versions
 pub mod SettlesQuietly
 pub mod VersionRuns
 pub mod LeftCommits
+pub mod OwnersKept
 pub mod JobFacts
 pub mod OpenedNow
 pub mod AtOnceRuns
@@ -265,4 +267,11 @@ pub mod ClaimRuns
 pub mod ClaimCuts
 pub mod ClaimJoins
 pub mod ClaimRecalls
+pub mod Strangers
+pub mod RawSettles
+pub mod PlansNamed
+pub mod RawGot
+pub mod RawServes
+pub mod SentBytes
+pub mod ClaimRaw
 pub mod lemmas

@@ -51,6 +51,7 @@ use Rattle.trace_ends.specs.Ops.{file_with}
 use Rattle.kept_promise.proofs.CommandOps.{made_by}
 use Rattle.kept_promise.proofs.OpFacts.{IsNew, FactLaws, facts_event, past_event}
 use Rattle.kept_promise.proofs.OpFacts
+use Rattle.kept_promise.proofs.Turns.{has_owner}
 
 -- ---- what is asked
 
@@ -399,7 +400,7 @@ logs_heard P E all laws opening past k qs after n now bytes mid kept h left j o 
     let taken : List TakenCall = session_taken (session_of k.sessions h.seat.session) in
     let more : Book = book_at opening (acted k h.session.owner h.seat r.0 r.1).core all in
     let taken_is : h.session.taken ≡ taken = sym (ap (λ l. session_taken (session_of k.sessions l)) h.newest ∙ ap session_taken h.at) in
-    let s : IsSession book k.seats k.server n h.session h.queue = kept.sessions n h.session h.queue h.at h.queue_is in
+    let s : IsSession book k.seats k.server n h.session h.queue = kept.sessions n h.session h.queue h.at h.queue_is (has_owner k.seats h.session h.seat h.owner) in
     let same_seat : s.seat ≡ h.seat = some_is s.seat h.seat (sym s.owner ∙ h.owner) in
     let place = job_place h.seat.place h.seat.client.task j job_at in
     let w = own_op book k qs h.session.owner h.seat j.place o kept h.owner place at in
@@ -425,7 +426,7 @@ logs_heard P E all laws opening past k qs after n now bytes mid kept h left j o 
     answered P E all laws book more taken j o j.place (at_clock h.seat.client now) h.told.xid (reply_body h.told.reply) (deals_of o past) refl task word (ap (λ (z : Op). z.outcome) (sym same) ∙ of.running) was each (λ of_known got mine ops_got right_got finds. record {
       known = of_known;
       finds = finds;
-      taking = record { at = at; place = refl; file = ap (λ (z : Op). z.file) (sym same) ∙ of.file (of_file_unnamed j.stage of_known); word = word; running = ap (λ (z : Op). z.outcome) (sym same) ∙ of.running; fetch = fetch; trying = trying; opening = refl };
+      taking = record { at = at; place = refl; file = ap (λ (z : Op). z.file) (sym same) ∙ of.file (of_file_unnamed j.stage of_known); word = word; running = ap (λ (z : Op). z.outcome) (sym same) ∙ of.running; fetch = fetch; trying = trying; opening = refl; raws = refl };
       apart = apart;
       fetched = fetched_now book taken h.session.closing j h.told.xid h.told.reply kept.sound fetch answer mine;
       value = value;

@@ -4,11 +4,11 @@ use Rattle.std.proofs.lemmas.Bool.Decides.{nat_tests}
 use Rattle.chunk_calls.specs.Files as the_files
 use Rattle.register_model.specs.declared.op.Word.TheVariants as words
 use Rattle.tree_reading.specs.Tree.{Tree}
-use Rattle.kept_promise.proofs.Common.{File, Op, Word, Entry, Book, value_at, version_at, value_from, slice_get, slice_set}
+use Rattle.kept_promise.proofs.Common.{File, Op, Word, Entry, Book, history, value_at, version_at, value_from, slice_get}
 use Rattle.kept_promise.proofs.Marks.{marks}
 use Rattle.kept_promise.proofs.Rights.{IsSound, IsUnmade}
 use Rattle.kept_promise.proofs.Growth.{Grows, or_later, value_alike, version_alike}
-use Rattle.kept_promise.proofs.History.{made_op, made_book, grows_made, value_now, version_now, marks_else}
+use Rattle.kept_promise.proofs.History.{made_book, grows_made, value_now, version_now, marks_else}
 use Rattle.kept_promise.proofs.Facts.{FileIs}
 use Rattle.kept_promise.proofs.Unused.{IsUnused, file_used}
 use Rattle.server_law.proofs.lemmas.Trees.{IsGiven}
@@ -22,14 +22,14 @@ two : (n : ℕ) → n + 2 ≡ n + 1 + 1
 two n = omega arith
 
 -- what is so two steps on
-at_two : (P : ℕ → Type 0) (n : ℕ) → P (n + 2) → P (n + 1 + 1)
+pub at_two : (P : ℕ → Type 0) (n : ℕ) → P (n + 2) → P (n + 1 + 1)
 at_two P n h = subst P (two n) h
 
 -- any other file is as it was
 pub others_alike : (book : Book) (es : List Entry) (f j : ℕ) (o : Op) (g : ℕ) → slice_get book.ops j ≡ Some o → IsUnmade o → (f ≡ g → ⊥) → IsSound book → (let more = made_book book es j f o in (value_at more g (more.steps + 1) ≡ value_at book g (book.steps + 1)) × (version_at more g (more.steps + 1) ≡ version_at book g (book.steps + 1)))
 others_alike book es f j o g at u apart sound =
     let more = made_book book es j f o in
-    let same : marks g (book.steps + 1 + 1) (slice_set book.ops j (made_op book f o)) ≡ marks g (book.steps + 1) book.ops = at_two (λ n. marks g n (slice_set book.ops j (made_op book f o)) ≡ marks g (book.steps + 1) book.ops) book.steps (marks_else book f j o g at u apart sound) in
+    let same : marks g (book.steps + 1 + 1) (history more).ops ≡ marks g (book.steps + 1) (history book).ops = at_two (λ n. marks g n (history more).ops ≡ marks g (book.steps + 1) (history book).ops) book.steps (marks_else book es f j o g at u apart sound) in
     (value_alike book more g (book.steps + 1 + 1) (book.steps + 1) refl same, version_alike book more g (book.steps + 1 + 1) (book.steps + 1) refl same)
 
 -- the file itself is what the operation left, in the next version

@@ -7,6 +7,7 @@ use Rattle.lease_rules.specs.Leases.{is_others}
 use Rattle.lease_rules.specs.declared.lease.Lease.{Lease}
 use Rattle.server_core.specs.Closing.{at as at_reading, ready_by}
 use Rattle.server_core.specs.State as server
+use Rattle.chunk_calls.specs.Files as the_files
 use Rattle.server_core.specs.Step.{hangs_if as server_hangs_if}
 use Rattle.client_state.specs.State as client
 use Rattle.register_model.specs.declared.op.Word.TheVariants as words
@@ -14,11 +15,12 @@ use Rattle.server_core.specs.declared.change.Wanted.{Wanted}
 use Rattle.server_core.specs.declared.change.Wanted.TheVariants as wanted
 use Rattle.server_rules.specs.declared.told.Told.TheVariants as announced
 use Rattle.tree_reading.specs.declared.entry.EntryKind.TheVariants as kind
-use Rattle.trace_ends.specs.Core.{newest_entries, changed_file}
-use Rattle.trace_replay.specs.Faithful.{IsSettled, IsRemoved, SettlesReady, IsSettling, IsMadeOrRefused}
-use Rattle.kept_promise.proofs.Common.{Contains-push_cases, slice_get, slice_set, Contains, stands, FileChange, ServerStep, File, Entry, ClientStep, Ended, Op, Opening, TakenCall, has_point, op_after, Core, Session, Event, Event.Serves, Event.Settles, CoreStep, joins, does, cuts, hangs, ops_with, settles, happens, Moment, step_of, Book, Queue}
+use Rattle.trace_ends.specs.Core.{raw_in, raws_by, raws_on, raws_with}
+use Rattle.trace_replay.specs.Faithful.{IsSettled, IsRawSettled, IsRemoved, SettlesReady, IsSettling, IsMadeOrRefused}
+use Rattle.kept_promise.proofs.Common.{Contains-push_cases, slice_get, slice_set, Contains, stands, FileChange, ServerStep, File, Entry, ClientStep, Ended, Op, Opening, TakenCall, has_point, op_after, Core, Session, Event, Event.Serves, Event.Settles, CoreStep, joins, does, cuts, hangs, ops_with, settles, happens, Moment, step_of, Book, Queue, is_raw, numbered, Tree}
 use Rattle.kept_promise.proofs.Lists.{some_is, nothing_there, at_end, at_replaced, kept_appended, of_appended, same_or_not, set_else, within, of_more, of_replicate, in_front}
-use Rattle.kept_promise.proofs.Turns.{also_numbered}
+use Rattle.kept_promise.proofs.Turns.{also_numbered, raw_or_owned, unnoted}
+use Rattle.kept_promise.proofs.RawSettles.{came, line_of, raws_content}
 use Rattle.kept_promise.proofs.Facts.{IsKept}
 use Rattle.kept_promise.proofs.RunsCarried.{book_at, moment, Step, Carried}
 use Rattle.kept_promise.proofs.Fits.{FitLaws}
@@ -28,13 +30,15 @@ use Rattle.kept_promise.proofs.VersionRuns.{close_not_opened}
 use Rattle.kept_promise.proofs.LogEvents.{value_stays}
 use Rattle.kept_promise.proofs.Growth.{or_map}
 use Rattle.kept_promise.proofs.Messages.{content_wanted, WaitsFor, job}
-use Rattle.kept_promise.proofs.TakenOut.{SettlesOut, settled_to, made_waiting, WhatSettles, settles_one, settles_none, what_settles}
+use Rattle.kept_promise.proofs.TakenOut.{SettlesOut, settled_to, made_waiting, WhatSettles, settles_one, settles_none, what_settles, raw_ops}
 use Rattle.kept_promise.proofs.ReadyFree.{ready_free, ready_first}
-use Rattle.kept_promise.proofs.Promised.{two_own}
+use Rattle.kept_promise.proofs.Promised.{two_own, one_waits}
 use Rattle.kept_promise.proofs.Making.{entry_of, made_change, made_is}
 use Rattle.kept_promise.proofs.ServesQuietly.{MadeHere, Entered, IsQuiet, serves_quiet}
 use Rattle.kept_promise.proofs.SettlesQuietly.{GoesHere, RefusesFor, Settling, makes_commit, makes_else, settling}
 use Rattle.kept_promise.proofs.Happens.{what_happens}
+use Rattle.register_model.specs.declared.raw.Raw.{Raw}
+use Rattle.server_rules.specs.declared.told.Told.{Told}
 
 -- ---- what becomes of operations that have a point
 
@@ -88,11 +92,14 @@ quiet_event all past rest opening k qs e mid after s none served = what_happens 
   joins = λ c seat is. λ rights. same;
   refuses = λ c seat is. λ rights. same;
   does = λ c now d seat is. λ rights. (refl, refl, more_points k.ops _);
-  takes = λ n now bytes x m is at read. absurd (served n now bytes is);
+  takes = λ n now bytes x m is at unhung read. absurd (served n now bytes is);
   hears = λ n now bytes owner seat is. λ rights. (refl, refl, acted_points left k.ops seat.place _ _ (k.steps + 1) _ rights);
   settles = λ now is. absurd (none now is);
   cuts = λ c seat is. λ rights. (refl, refl, acted_points left k.ops seat.place _ _ (k.steps + 1) _ rights);
-  hangs = λ n x is at. λ rights. (refl, gone n (stands k.server n), same_points k.ops);
+  hangs = λ n x is at unhung. λ rights. (refl, gone n (stands k.server n), same_points k.ops);
+  closes = λ n now bytes x is at unhung. absurd (served n now bytes is);
+  raw_joins = λ is. λ rights. same;
+  raw_refuses = λ is. λ rights. same;
 }) (left_rights all opening (happens k e).core after s.left)
   where
     left : Book
@@ -118,16 +125,81 @@ first_later : (book more : Book) (m : Moment) (c : FileChange) → ((i p : ℕ) 
 first_later book more m c later (inl made) = inl (later (length m.before.server.journal) (step_of m) made)
 first_later book more m c later (inr refused) = inr refused
 
+-- a content that was replaced is a close's, or a session's that is no client's
+abbrev pub IsMade : Book → (number step : ℕ) → Type 0
+IsMade book i p = IsSettled book i p ⊎ IsRawSettled book i p
+
 pub record AreMade (opening : List Opening) (all past : List Moment) (k : Core) : Type 0 where
-  pub settled : (i p : ℕ) (e : Entry) → slice_get k.entries i ≡ Some p → slice_get k.server.journal i ≡ Some e → e.kind ≡ kind.Commit → IsSettled (book_at opening k all) i p
+  pub settled : (i p : ℕ) (e : Entry) → slice_get k.entries i ≡ Some p → slice_get k.server.journal i ≡ Some e → e.kind ≡ kind.Commit → IsMade (book_at opening k all) i p
   pub removed : (i p : ℕ) (e : Entry) → slice_get k.entries i ≡ Some p → slice_get k.server.journal i ≡ Some e → e.kind ≡ kind.Remove → IsRemoved all p e
   pub makes : MakesReady (book_at opening k past)
 
+-- what is noted of changes by other sessions than clients' stays
+abbrev pub RawsStay : (before after : List Raw) → Type 0
+RawsStay before after = (j : ℕ) (r : Raw) → slice_get before j ≡ Some r → slice_get after j ≡ Some r
+
+raws_stay : (k : Core) (e : Event) → RawsStay k.raws (happens k e).core.raws
+raws_stay k e = what_happens k e (λ t. RawsStay k.raws t.core.raws) (record {
+  nothing = same;
+  idle = same;
+  joins = λ c seat is. same;
+  refuses = λ c seat is. same;
+  does = λ c now d seat is. same;
+  takes = λ n now bytes x m is at unhung read. with_more (is_raw x) (k.steps + 1) _ _;
+  closes = λ n now bytes x is at unhung. same;
+  hears = λ n now bytes owner seat is. same;
+  settles = λ now is. told_more _ _ _;
+  cuts = λ c seat is. same;
+  hangs = λ n x is at unhung. same;
+  raw_joins = λ is. same;
+  raw_refuses = λ is. same;
+})
+  where
+    same : RawsStay k.raws k.raws
+    same j r at = at
+
+    with_more : (raw : Bool) (begin : ℕ) (t : Tree) (e : Option Entry) → RawsStay k.raws (raws_with k.raws raw begin (k.steps + 1) t e)
+    with_more true begin t e j r at = in_front k.raws (raw_in begin (k.steps + 1) t e) j r at
+    with_more false begin t e j r at = at
+
+    on_more : (came : Option ℕ) (t : Tree) (e : Option Entry) (x : Option Session) → RawsStay k.raws (raws_on k.raws came (k.steps + 1) t e x)
+    on_more (Some b) t e (Some x) = with_more (is_raw x) b t e
+    on_more (Some b) t e None = same
+    on_more None t e x = same
+
+    told_more : (t : Tree) (e : Option Entry) (told : Told) → RawsStay k.raws (raws_by k t e told)
+    told_more t e (announced.Settled session xid) = on_more (numbered k.came session) t e (numbered k.sessions session)
+    told_more t e _ = same
+
 -- it stays once a journal has grown
-settled_later : (opening : List Opening) (all : List Moment) (k l : Core) (i p : ℕ) → ((e : Entry) → slice_get k.server.journal i ≡ Some e → slice_get l.server.journal i ≡ Some e) → KeepsPoints k.ops l.ops → IsSettled (book_at opening k all) i p → IsSettled (book_at opening l all) i p
-settled_later opening all k l i p journal points s =
+settled_later : (opening : List Opening) (all : List Moment) (k l : Core) (i p : ℕ) → ((e : Entry) → slice_get k.server.journal i ≡ Some e → slice_get l.server.journal i ≡ Some e) → KeepsPoints k.ops l.ops → RawsStay k.raws l.raws → IsMade (book_at opening k all) i p → IsMade (book_at opening l all) i p
+settled_later opening all k l i p journal points raws (inr s) = inr (record {
+  moment = s.moment;
+  there = s.there;
+  now = s.now;
+  event_is = s.event_is;
+  step_is = s.step_is;
+  number_is = s.number_is;
+  change = s.change;
+  ready = s.ready;
+  session = s.session;
+  on = s.on;
+  raw = s.raw;
+  came = s.came;
+  came_is = s.came_is;
+  entry = s.entry;
+  entry_is = journal s.entry s.entry_is;
+  content = s.content;
+  what_is = s.what_is;
+  place = s.place;
+  line = s.line;
+  line_is = raws s.place s.line s.line_is;
+  told = s.told;
+  entry_told = s.entry_told;
+})
+settled_later opening all k l i p journal points raws (inl s) =
     let r = points s.place p s.op s.op_is s.word_is s.point_is in
-    record {
+    inl (record {
       moment = s.moment;
       there = s.there;
       now = s.now;
@@ -154,11 +226,11 @@ settled_later opening all k l i p journal points s =
       value_is = or_map (book_at opening l all) _ _ (λ e. r.5 ∙ e) s.value_is;
       owner = s.owner ∙ sym r.2;
       closing = s.closing;
-    }
+    })
 
 made_quietly : (opening : List Opening) (all past : List Moment) (k : Core) (e : Event) → ((now : ℕ) → e ≡ Settles now → ⊥) → Quietly k (happens k e) → AreMade opening all past k → AreMade opening all (past ++ moment k e ∷ []) (happens k e).core
 made_quietly opening all past k e none q h = record {
-  settled = λ i p d at is commit. settled_later opening all k (happens k e).core i p (λ x was. ap (λ (l : List Entry). slice_get l i) q.1 ∙ was) q.2 (h.settled i p d (ap (λ (l : List ℕ). slice_get l i) (sym q.0) ∙ at) (ap (λ (l : List Entry). slice_get l i) (sym q.1) ∙ is) commit);
+  settled = λ i p d at is commit. settled_later opening all k (happens k e).core i p (λ x was. ap (λ (l : List Entry). slice_get l i) q.1 ∙ was) q.2 (raws_stay k e) (h.settled i p d (ap (λ (l : List ℕ). slice_get l i) (sym q.0) ∙ at) (ap (λ (l : List Entry). slice_get l i) (sym q.1) ∙ is) commit);
   removed = λ i p d at is goes. h.removed i p d (ap (λ (l : List ℕ). slice_get l i) (sym q.0) ∙ at) (ap (λ (l : List Entry). slice_get l i) (sym q.1) ∙ is) goes;
   makes = λ m now c there is at. elim (Contains-push_cases past (moment k e) m there) [
     | inl old ↦ first_later (book_at opening k past) (book_at opening (happens k e).core (past ++ moment k e ∷ [])) m c (λ i p had. ap (λ (l : List ℕ). slice_get l i) q.0 ∙ had) (h.makes m now c old is at)
@@ -179,7 +251,7 @@ made_entered : (opening : List Opening) (all past : List Moment) (k : Core) (e :
 made_entered opening all past k e count q points tells goes_now h = record {
   settled = λ i p d at is commit. elim (of_more k.entries steps i p (ap (λ (l : List ℕ). slice_get l i) (sym q.entries) ∙ at)) [
     | inl old ↦ elim (of_more k.server.journal q.es i d (ap (λ (l : List Entry). slice_get l i) (sym q.journal) ∙ is)) [
-      | inl was ↦ settled_later opening all k later i p (λ x had. ap (λ (l : List Entry). slice_get l i) q.journal ∙ in_front k.server.journal q.es i x had) points (h.settled i p d old was commit)
+      | inl was ↦ settled_later opening all k later i p (λ x had. ap (λ (l : List Entry). slice_get l i) q.journal ∙ in_front k.server.journal q.es i x had) points (raws_stay k e) (h.settled i p d old was commit)
       | inr new ↦ let x = new.1 in let y = within k.entries i p old in absurd (omega (arith, x, y, count))
     ]
     | inr late ↦ elim (of_more k.server.journal q.es i d (ap (λ (l : List Entry). slice_get l i) (sym q.journal) ∙ is)) [
@@ -215,10 +287,6 @@ made_entered opening all past k e count q points tells goes_now h = record {
 
 -- ---- a change is made, or none is ready
 
--- what a settling leaves, by what the server did
-abbrev left_by : Core → server.State × ServerStep → Core
-left_by k r = record k { steps = k.steps + 1; server = r.0; ops = Rattle.trace_ends.specs.Core.settled_by k (changed_file (newest_entries r.0.journal r.1.entries)) r.1.told; entries = k.entries ++ replicate r.1.entries (k.steps + 1) }
-
 -- a close that had no point gets one
 pointed_points : (ops : List Op) (place file step : ℕ) (o : Op) → slice_get ops place ≡ Some o → o.point ≡ None → KeepsPoints ops (slice_set ops place (record o { file = file; point = Some step }))
 pointed_points ops place file step o there none j p r at word point = elim (same_or_not j place) [
@@ -231,87 +299,159 @@ gone_points : (k : Core) (ops : List Op) → (ops ≡ k.ops) ⊎ GoesHere k ops 
 gone_points k ops (inl same) = subst (KeepsPoints k.ops) (sym same) (same_points k.ops)
 gone_points k ops (inr g) = subst (KeepsPoints k.ops) (sym g.after_is) (pointed_points k.ops g.place g.new (k.steps + 1) g.op g.there g.unmade.1)
 
+-- a content that was pending is made one's
+module _ (all past rest : List Moment) (opening : List Opening) (k : Core) (qs : List Queue) (now : ℕ) (mid after : List Queue) (s : Step all past rest opening k qs (Settles now) mid after) (h : AreMade opening all past k)
+    (c : FileChange) (cs : List FileChange) (f : File) (out : SettlesOut k now c cs) (what : c.what ≡ wanted.Content (content_wanted c.what)) (there : the_files.file_at k.server.tree c.file ≡ Some f) where
+  abbrev content : List ℕ
+  content = content_wanted c.what
+
+  abbrev told : Entry
+  told = entry_of c content f
+
+  abbrev left : Core
+  left = (settles k now).core
+
+  kept : IsKept (book_at opening k all) k qs
+  kept = s.kept
+
+  count : length k.entries ≡ length k.server.journal
+  count = s.kept.sound.journal.count
+
+  step_is : unnoted k (settles k now) ≡ settled_to k (made_change (at_reading (record k.server { waiting = cs }) now) c content f)
+  step_is = out.is ∙ ap (settled_to k) (made_is (book_at opening k all) k.server now c cs f kept.server out.out there what)
+
+  entries_are : left.entries ≡ k.entries ++ (k.steps + 1) ∷ []
+  entries_are = ap (λ (t : CoreStep). t.core.entries) step_is
+
+  journal_is : left.server.journal ≡ k.server.journal ++ told ∷ []
+  journal_is = ap (λ (t : CoreStep). t.core.server.journal) step_is
+
+  home : (x : Session) × (numbered k.sessions c.session ≡ Some x) × (x.hung ≡ false)
+  home = kept.home out.out.place c out.out.there
+
+  queue : (q : Queue) × (numbered qs c.session ≡ Some q)
+  queue = also_numbered k.sessions qs c.session home.0 kept.made.1 home.1
+
+  -- what it leaves of the operations, and what the last entry tells
+  abbrev IsLast : Type 0
+  IsLast = KeepsPoints k.ops left.ops × IsMade (book_at opening left all) (length k.entries) (k.steps + 1)
+
+  entry_there : slice_get left.server.journal (length k.entries) ≡ Some told
+  entry_there = ap (λ (l : List Entry). slice_get l (length k.entries)) journal_is ∙ ap (slice_get (k.server.journal ++ told ∷ [])) count ∙ at_end k.server.journal told
+
+  by_client : is_raw home.0 ≡ false → IsLast
+  by_client owned =
+      let x = kept.sessions c.session home.0 queue.0 home.1 queue.1 owned in
+      let pending = subst (λ (z : Wanted). WaitsFor (book_at opening k all) c.session home.0.closing home.0.cut (job x.seat) c.xid c.file z) what (x.pending 0 c (ap (λ (l : List FileChange). slice_get l 0) out.out.mine)) in
+      let old = x.old pending.place pending.known in
+      let op : Op = record pending.op { file = c.file; point = Some (k.steps + 1) } in
+      let made_op : slice_get (slice_set k.ops pending.place op) pending.place ≡ Some op = at_replaced k.ops pending.place op pending.op pending.there in
+      let ops_are : left.ops ≡ slice_set k.ops pending.place op =
+      ap (λ (t : CoreStep). t.core.ops) step_is
+      ∙ ap (λ (z : Option ℕ). Rattle.trace_ends.specs.Core.settled_by k z (announced.Settled c.session c.xid)) (newest_one k.server.journal told)
+      ∙ ap (Rattle.trace_ends.specs.Session.settled_ops k.ops (k.steps + 1) (Some c.file)) home.1
+      ∙ ap (λ l. Rattle.trace_ends.specs.Ops.pointed_at k.ops l (k.steps + 1) (Some c.file)) pending.known
+      ∙ ap (Rattle.trace_ends.specs.Ops.pointed k.ops pending.place c.file (k.steps + 1)) pending.there in (
+        subst (KeepsPoints k.ops) (sym ops_are) (pointed_points k.ops pending.place c.file (k.steps + 1) pending.op pending.there pending.unmade.1),
+        inl (record {
+          moment = moment k (Settles now);
+          there = s.noted.there;
+          now = now;
+          event_is = refl;
+          step_is = refl;
+          number_is = sym count;
+          change = c;
+          ready = out.ready;
+          entry = told;
+          entry_is = entry_there;
+          kind_is = refl;
+          file_is = refl;
+          session_is = refl;
+          session = home.0;
+          on = home.1;
+          place = pending.place;
+          op = op;
+          op_is = ap (λ (l : List Op). slice_get l pending.place) ops_are ∙ made_op;
+          word_is = pending.word_is;
+          point_is = refl;
+          content = content;
+          what_is = what;
+          size_is = pending.size_is;
+          value_is = pending.value_is;
+          owner = sym old.2 ∙ ap (λ (z : Op). z.client) (some_is old.0 pending.op (sym old.1 ∙ pending.there));
+          closing = pending.known;
+        }),
+      )
+
+  -- one by another session is noted as it is
+  by_other : is_raw home.0 ≡ true → IsLast
+  by_other raw =
+      let came_ = came (book_at opening k all) k qs now c cs kept out home.0 home.1 raw in
+      let line : Raw = line_of (book_at opening k all) k qs now c cs kept out home.0 home.1 raw f in (
+        subst (KeepsPoints k.ops) (sym (raw_ops k now c cs home.0 out home.1 (kept.strangers c.session home.0 queue.0 home.1 queue.1 raw).closing)) (same_points k.ops),
+        inr (record {
+          moment = moment k (Settles now);
+          there = s.noted.there;
+          now = now;
+          event_is = refl;
+          step_is = refl;
+          number_is = sym count;
+          change = c;
+          ready = out.ready;
+          session = home.0;
+          on = home.1;
+          raw = raw;
+          came = came_.0;
+          came_is = came_.1;
+          entry = told;
+          entry_is = entry_there;
+          content = content;
+          what_is = what;
+          place = length k.raws;
+          line = line;
+          line_is = ap (λ (l : List Raw). slice_get l (length k.raws)) (raws_content (book_at opening k all) k qs now c cs kept out home.0 home.1 raw f what there) ∙ at_end k.raws line;
+          told = refl;
+          entry_told = refl;
+        }),
+      )
+
+  commit_stays : {A : Type 0} → kind.Commit ≡ kind.Remove → A
+  commit_stays z = absurd cc
+
+  old_entry : (i p : ℕ) (d : Entry) → slice_get k.entries i ≡ Some p → slice_get left.server.journal i ≡ Some d → slice_get k.server.journal i ≡ Some d
+  old_entry i p d had is = elim (of_appended k.server.journal told i d (ap (λ (l : List Entry). slice_get l i) (sym journal_is) ∙ is)) [
+    | inr was ↦ was
+    | inl last ↦ let x = last.0 in let y = within k.entries i p had in absurd (omega (arith, x, y, count))
+  ]
+
+  pub made_content : AreMade opening all (past ++ moment k (Settles now) ∷ []) left
+  made_content =
+      let last : IsLast = elim (raw_or_owned home.0) [ inl raw ↦ by_other raw | inr owned ↦ by_client owned ] in
+      record {
+        settled = λ i p d at is commit. elim (of_appended k.entries (k.steps + 1) i p (ap (λ (l : List ℕ). slice_get l i) (sym entries_are) ∙ at)) [
+          | inr was ↦ settled_later opening all k left i p (λ y had. ap (λ (l : List Entry). slice_get l i) journal_is ∙ kept_appended k.server.journal told i y had) last.0 (raws_stay k (Settles now)) (h.settled i p d was (old_entry i p d was is) commit)
+          | inl new ↦ subst (λ (n : ℕ). IsMade (book_at opening left all) n p) (sym new.0) (subst (IsMade (book_at opening left all) (length k.entries)) (sym new.1) last.1)
+        ];
+        removed = λ i p d at is goes. elim (of_appended k.entries (k.steps + 1) i p (ap (λ (l : List ℕ). slice_get l i) (sym entries_are) ∙ at)) [
+          | inr was ↦ h.removed i p d was (old_entry i p d was is) goes
+          | inl new ↦ commit_stays (ap (λ (z : Entry). z.kind) (some_is told d (sym entry_there ∙ ap (slice_get left.server.journal) (sym new.0) ∙ is)) ∙ goes)
+        ];
+        makes = λ m n d in_ is at. elim (Contains-push_cases past (moment k (Settles now)) m in_) [
+          | inl was ↦ first_later (book_at opening k past) (book_at opening left (past ++ moment k (Settles now) ∷ [])) m d (λ i p had. ap (λ (l : List ℕ). slice_get l i) entries_are ∙ kept_appended k.entries (k.steps + 1) i p had) (h.makes m n d was is at)
+          | inr new ↦ inl (subst (λ (z : Moment). slice_get left.entries (length z.before.server.journal) ≡ Some (step_of z)) new (ap (λ (l : List ℕ). slice_get l (length k.server.journal)) entries_are ∙ ap (slice_get (k.entries ++ (k.steps + 1) ∷ [])) (sym count) ∙ at_end k.entries (k.steps + 1)))
+        ];
+      }
+
 made_settling : (all past rest : List Moment) (opening : List Opening) (k : Core) (qs : List Queue) (now : ℕ) (mid after : List Queue) → Step all past rest opening k qs (Settles now) mid after → AreMade opening all past k → AreMade opening all (past ++ moment k (Settles now) ∷ []) (settles k now).core
 made_settling all past rest opening k qs now mid after s h = by (settling (book_at opening k all) k qs now s.kept)
   where
-    kept : IsKept (book_at opening k all) k qs
-    kept = s.kept
-
-    here : Contains all (moment k (Settles now))
-    here = s.noted.there
-
-    count : length k.entries ≡ length k.server.journal
-    count = s.kept.sound.journal.count
-
-    commit_stays : {A : Type 0} → kind.Commit ≡ kind.Remove → A
-    commit_stays z = absurd cc
-
-    made : (c : FileChange) (cs : List FileChange) (f : File) → SettlesOut k now c cs → c.what ≡ wanted.Content (content_wanted c.what) → AreMade opening all (past ++ moment k (Settles now) ∷ []) (left_by k (made_change (at_reading (record k.server { waiting = cs }) now) c (content_wanted c.what) f))
-    made c cs f out what =
-        let home = kept.home out.out.place c out.out.there in
-        let q = also_numbered k.sessions qs c.session home.0 kept.made.1 home.1 in
-        let x = kept.sessions c.session home.0 q.0 home.1 q.1 in
-        let pending = subst (λ (z : Wanted). WaitsFor (book_at opening k all) c.session home.0.closing home.0.cut (job x.seat) c.xid c.file z) what (x.pending 0 c (ap (λ (l : List FileChange). slice_get l 0) out.out.mine)) in
-        let old = x.old pending.place pending.known in
-        let op : Op = record pending.op { file = c.file; point = Some (k.steps + 1) } in
-        let made_op : slice_get (slice_set k.ops pending.place op) pending.place ≡ Some op = at_replaced k.ops pending.place op pending.op pending.there in
-        let ops_are : (left_by k (made_change (at_reading (record k.server { waiting = cs }) now) c (content_wanted c.what) f)).ops ≡ slice_set k.ops pending.place op =
-        ap (λ (z : Option ℕ). Rattle.trace_ends.specs.Core.settled_by k z (announced.Settled c.session c.xid)) (newest_one k.server.journal (entry_of c (content_wanted c.what) f))
-        ∙ ap (Rattle.trace_ends.specs.Session.settled_ops k.ops (k.steps + 1) (Some c.file)) home.1
-        ∙ ap (λ l. Rattle.trace_ends.specs.Ops.pointed_at k.ops l (k.steps + 1) (Some c.file)) pending.known
-        ∙ ap (Rattle.trace_ends.specs.Ops.pointed k.ops pending.place c.file (k.steps + 1)) pending.there in
-        let points : KeepsPoints k.ops (left_by k (made_change (at_reading (record k.server { waiting = cs }) now) c (content_wanted c.what) f)).ops = subst (KeepsPoints k.ops) (sym ops_are) (pointed_points k.ops pending.place c.file (k.steps + 1) pending.op pending.there pending.unmade.1) in
-        let old_entry : (i p : ℕ) (d : Entry) → slice_get k.entries i ≡ Some p → slice_get (k.server.journal ++ entry_of c (content_wanted c.what) f ∷ []) i ≡ Some d → slice_get k.server.journal i ≡ Some d = λ i p d had is. elim (of_appended k.server.journal (entry_of c (content_wanted c.what) f) i d is) [ inr was ↦ was | inl last ↦ let x = last.0 in let y = within k.entries i p had in absurd (omega (arith, x, y, count)) ] in
-        record {
-          settled = λ i p d at is commit. elim (of_appended k.entries (k.steps + 1) i p at) [
-            | inr was ↦ settled_later opening all k (left_by k (made_change (at_reading (record k.server { waiting = cs }) now) c (content_wanted c.what) f)) i p (λ y had. kept_appended k.server.journal (entry_of c (content_wanted c.what) f) i y had) points (h.settled i p d was (old_entry i p d was is) commit)
-            | inl last ↦ record {
-              moment = moment k (Settles now);
-              there = here;
-              now = now;
-              event_is = refl;
-              step_is = sym last.1;
-              number_is = sym count ∙ sym last.0;
-              change = c;
-              ready = out.ready;
-              entry = entry_of c (content_wanted c.what) f;
-              entry_is = ap (slice_get (k.server.journal ++ entry_of c (content_wanted c.what) f ∷ [])) (last.0 ∙ count) ∙ at_end k.server.journal (entry_of c (content_wanted c.what) f);
-              kind_is = refl;
-              file_is = refl;
-              session_is = refl;
-              session = home.0;
-              on = home.1;
-              place = pending.place;
-              op = op;
-              op_is = ap (λ (l : List Op). slice_get l pending.place) ops_are ∙ made_op;
-              word_is = pending.word_is;
-              point_is = ap (λ n. Some n) (sym last.1);
-              content = content_wanted c.what;
-              what_is = what;
-              size_is = pending.size_is;
-              value_is = pending.value_is;
-              owner = sym old.2 ∙ ap (λ (z : Op). z.client) (some_is old.0 pending.op (sym old.1 ∙ pending.there));
-              closing = pending.known;
-            }
-          ];
-          removed = λ i p d at is goes. elim (of_appended k.entries (k.steps + 1) i p at) [
-            | inr was ↦ h.removed i p d was (old_entry i p d was is) goes
-            | inl last ↦ commit_stays (ap (λ (z : Entry). z.kind) (some_is (entry_of c (content_wanted c.what) f) d (sym (ap (slice_get (k.server.journal ++ entry_of c (content_wanted c.what) f ∷ [])) (last.0 ∙ count) ∙ at_end k.server.journal (entry_of c (content_wanted c.what) f)) ∙ is)) ∙ goes)
-          ];
-          makes = λ m n d in_ is at. elim (Contains-push_cases past (moment k (Settles now)) m in_) [
-            | inl was ↦ first_later (book_at opening k past) (book_at opening (left_by k (made_change (at_reading (record k.server { waiting = cs }) now) c (content_wanted c.what) f)) (past ++ moment k (Settles now) ∷ [])) m d (λ i p had. kept_appended k.entries (k.steps + 1) i p had) (h.makes m n d was is at)
-            | inr new ↦ inl (subst (λ (z : Moment). slice_get (k.entries ++ (k.steps + 1) ∷ []) (length z.before.server.journal) ≡ Some (step_of z)) new (ap (slice_get (k.entries ++ (k.steps + 1) ∷ [])) (sym count) ∙ at_end k.entries (k.steps + 1)))
-          ];
-        }
-
     settles_at : {n : ℕ} → Settles now ≡ Settles n → now ≡ n
     settles_at is = cc
 
     by : Settling k now (settles k now) → AreMade opening all (past ++ moment k (Settles now) ∷ []) (settles k now).core
-    by (makes_commit c cs f out what there) =
-        subst (λ (t : CoreStep). AreMade opening all (past ++ moment k (Settles now) ∷ []) t.core) (sym (out.is ∙ ap (settled_to k) (made_is (book_at opening k all) k.server now c cs f kept.server out.out there what))) (made c cs f out what)
-    by (makes_else ops q tells removes) = made_entered opening all past k (Settles now) count q (gone_points k (settles k now).core.ops ops) (λ n c is at. tells c (ap (ready_by k.server) (settles_at is) ∙ at))
-        (λ i d at goes. (let r = removes i d at goes in record { moment = moment k (Settles now); there = here; now = now; event_is = refl; step_is = refl; change = r.change; ready = r.ready; call = r.call; what_is = r.what_is; file_is = r.file_is; session_is = r.session_is })) h
+    by (makes_commit c cs f out what there) = made_content all past rest opening k qs now mid after s h c cs f out what there
+    by (makes_else ops q tells removes) = made_entered opening all past k (Settles now) s.kept.sound.journal.count q (gone_points k (settles k now).core.ops ops) (λ n c is at. tells c (ap (ready_by k.server) (settles_at is) ∙ at))
+        (λ i d at goes. (let r = removes i d at goes in record { moment = moment k (Settles now); there = s.noted.there; now = now; event_is = refl; step_is = refl; change = r.change; ready = r.ready; call = r.call; what_is = r.what_is; file_is = r.file_is; session_is = r.session_is })) h
 
 -- ---- a call is taken
 
@@ -360,8 +500,7 @@ leaves_ready book k qs now kept = by (what_settles book k qs now kept)
     once : (c : FileChange) (i j : ℕ) → slice_get k.server.waiting i ≡ Some c → slice_get k.server.waiting j ≡ Some c → i ≡ j
     once c i j a b =
         let home = kept.home i c a in
-        let q = also_numbered k.sessions qs c.session home.0 kept.made.1 home.1 in
-        let le = (kept.sessions c.session home.0 q.0 home.1 q.1).single in
+        let le = one_waits kept c.session home.0 home.1 in
         two_own c.session k.server.waiting i j c c a b refl refl (omega (arith, le))
 
     by : WhatSettles k now → Leaves k now (ready_by k.server now)

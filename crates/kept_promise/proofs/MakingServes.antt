@@ -35,7 +35,7 @@ use Rattle.trace_replay.specs.Naming.{entry_file, refusal_of}
 use Rattle.trace_ends.specs.Core.{changed_file, is_of_file}
 use Rattle.trace_ends.specs.Ops.{pointed_at, pointed}
 use Rattle.server_law.proofs.lemmas.Trees.{given, IsBounded}
-use Rattle.kept_promise.proofs.Common.{slice_get, slice_set, cond, option_map, Contains, Contains-push, message_spell, MessageFits, stands, not, at, Entry, File, Op, TakenCall, FileChange, Stage, Word, Core, Seat, Session, Event.Serves, CoreStep, numbered, with_numbered, happens, serves, serves_if, quiet, Book, value_at, version_at, Call.Walks, Reply.Walked, value_from, unwrap_or, NameReply, name_answer, Ask, Told, Queue, ask_message, told_message, Leasing, later}
+use Rattle.kept_promise.proofs.Common.{slice_get, slice_set, cond, option_map, Contains, Contains-push, message_spell, MessageFits, stands, not, at, Entry, File, Op, TakenCall, FileChange, Stage, Word, Core, Seat, Session, Event.Serves, CoreStep, numbered, with_numbered, happens, serves, serves_if, quiet, Book, value_at, version_at, Call.Walks, Reply.Walked, value_from, unwrap_or, NameReply, name_answer, Ask, Told, Queue, ask_message, told_message, Leasing, later, history}
 use Rattle.kept_promise.proofs.Statements.{ToldFits, CallFits}
 use Rattle.trace_replay.specs.Faithful.{IsKind}
 use Rattle.register_model.specs.Register.{IsFit}
@@ -60,13 +60,14 @@ use Rattle.kept_promise.proofs.Taken.{tolds_at, finds_more, answer_found}
 use Rattle.kept_promise.proofs.Takes.{took, file_still, fresh_still}
 use Rattle.kept_promise.proofs.Fits.{FitLaws}
 use Rattle.kept_promise.proofs.Facts.{FileIs, IsServer, IsSession, commits_in}
-use Rattle.kept_promise.proofs.Serves.{answered, parsed, parsed_at}
+use Rattle.kept_promise.proofs.Serves.{answered, parsed, parsed_at, serves_as, leads_got}
 use Rattle.kept_promise.proofs.ServesFiles.{making_got, got_making, pointed_none}
 use Rattle.kept_promise.proofs.Calls.{Given, session_in, first_fits, rest_of, leads_by, same_temps, held_still}
 use Rattle.kept_promise.proofs.Tells.{walk_came, taken_now}
 use Rattle.kept_promise.proofs.Entering.{entered_server, entered_step, leads_entered}
 use Rattle.kept_promise.proofs.Leading.{Leads}
 use Rattle.kept_promise.proofs.Unused.{IsUnused, unused_named, unused_created, created_used}
+use Rattle.kept_promise.proofs.Turns.{unnoted}
 
 -- ---- which goals
 
@@ -124,10 +125,10 @@ module _ (laws : FitLaws) (book : Book) (k : Core) (qs : List Queue) (n now : �
   creating : is_creating w ≡ true → IsCreating book x.closing x.cut (job h.seat) xid w
   creating is = (subst (AllAsks (IsCommit book x.closing x.cut (job h.seat) h.contents)) g.first h.commits).0 is
 
-  step_is : happens k (Serves n now (message_spell (ask_message a))) ≡ making_got k n now x xid made
+  step_is : unnoted k (happens k (Serves n now (message_spell (ask_message a)))) ≡ making_got k n now x xid made
   step_is =
       let standing : stands k.server n ≡ true = h.stands_is ∙ ap not g.unhung in
-      ap (serves k n now (message_spell (ask_message a))) g.at ∙ ap (serves_if k n now x) (parsed_at laws k n a fits) ∙ got_making k n now x xid w fits.1 making standing
+      ap (unnoted k) (serves_as k n now (message_spell (ask_message a)) x (ask_message a) g.at g.unhung (parsed_at laws k n a fits)) ∙ got_making k n now x xid w fits.1 making standing
 
   -- the answer goes down
   sent : (r : NameReply) → made.1.answer ≡ name_answer r → Contains (happens k (Serves n now (message_spell (ask_message a)))).down (record { session = n; message = message.Answer xid (body.Nfs (name_answer r)) })
@@ -264,7 +265,7 @@ module _ (laws : FitLaws) (book : Book) (k : Core) (qs : List Queue) (n now : �
       let entries : more.entries ≡ k.entries ++ (k.steps + 1) ∷ [] = ap (λ (es : List ℕ). es ++ (book.steps + 1) ∷ []) g.kept.entries ∙ ap (λ (s : ℕ). k.entries ++ (s + 1) ∷ []) g.kept.steps in
       subst (λ (p : Tree × Finished). Leads book (rest_of qs n q us) (making_got k n now x xid p)) (sym is)
       (subst (Leads book (rest_of qs n q us)) (sym (done_step after e r k.ops ops_is))
-      (leads_entered book more k qs n leasing after (k.server.journal ++ written_by n e ∷ []) k.ops (k.entries ++ (k.steps + 1) ∷ []) x q a us (Walked r) None g.kept g.at g.is g.first g.unhung refl refl (ap (λ s. s + 1) g.kept.steps) g.kept.ops entries (record {
+      (leads_entered book more k qs n leasing after (k.server.journal ++ written_by n e ∷ []) k.ops (k.entries ++ (k.steps + 1) ∷ []) x q a us (Walked r) None g.kept g.at g.is g.owned g.first g.unhung refl refl (ap (λ s. s + 1) g.kept.steps) g.kept.ops entries (record {
         goes = goes_named book (written_by n e ∷ []) (are_names e kind_is) g.kept.sound;
         server = server_named after done e names step after_is;
         journal_is = ap (λ (l : List Entry). l ++ written_by n e ∷ []) g.kept.journal;
@@ -310,7 +311,7 @@ module _ (laws : FitLaws) (book : Book) (k : Core) (qs : List Queue) (n now : �
   file_now c e own name after a f = elim (same_or_not f t.next) [
     | inl here ↦ subst (λ (z : ℕ). FileIs (made_file c e) z (the_files.file_at after z)) (sym here) (subst (FileIs (made_file c e) t.next) (sym (file_made t w.dir name after (given t g.kept.server.bounded) a t.next ∙ ap (λ (b : Bool). if b then Some (record { id = t.next; version = 1; content = [] }) else the_files.file_at t t.next) (eq-eqb t.next t.next refl))) own)
     | inr apart ↦
-        let marks_ : marks f (book.steps + 1 + 1) (slice_set book.ops c.place (made_op book t.next c.op)) ≡ marks f (book.steps + 1) book.ops = subst (λ m. marks f m (slice_set book.ops c.place (made_op book t.next c.op)) ≡ marks f (book.steps + 1) book.ops) two (marks_else book t.next c.place c.op f c.there c.unmade (λ q. apart (sym q)) g.kept.sound) in
+        let marks_ : marks f (book.steps + 1 + 1) (history (made_file c e)).ops ≡ marks f (book.steps + 1) (history book).ops = subst (λ m. marks f m (history (made_file c e)).ops ≡ marks f (book.steps + 1) (history book).ops) two (marks_else book (written_by n e ∷ []) t.next c.place c.op f c.there c.unmade (λ q. apart (sym q)) g.kept.sound) in
         subst (FileIs (made_file c e) f) (sym (file_made t w.dir name after (given t g.kept.server.bounded) a f ∙ ap (λ (b : Bool). if b then Some (record { id = t.next; version = 1; content = [] }) else the_files.file_at t f) (ne_eqb t.next f (λ q. apart (sym q)))))
         (others (the_files.file_at t f) (g.kept.server.held f) (value_alike book (made_file c e) f (book.steps + 1 + 1) (book.steps + 1) refl marks_) (version_alike book (made_file c e) f (book.steps + 1 + 1) (book.steps + 1) refl marks_))
   ]
@@ -334,7 +335,7 @@ module _ (laws : FitLaws) (book : Book) (k : Core) (qs : List Queue) (n now : �
         held = file_now c e (refl, next_big t w.dir name after a g.kept.server.bounded g.kept.server.zero, next_small t g.kept.server.bounded, record { value = []; is = value; size = refl; same = inl refl }, version, omega arith) name after a;
         fresh = λ f u.
             let apart : f ≡ t.next → ⊥ = λ same. created_used t w.dir name after (given t g.kept.server.bounded) a (subst (IsUnused after) same u) in
-            let marks_ : marks f (book.steps + 1 + 1) (slice_set book.ops c.place (made_op book t.next c.op)) ≡ marks f (book.steps + 1) book.ops = subst (λ m. marks f m (slice_set book.ops c.place (made_op book t.next c.op)) ≡ marks f (book.steps + 1) book.ops) two (marks_else book t.next c.place c.op f c.there c.unmade (λ q. apart (sym q)) g.kept.sound) in
+            let marks_ : marks f (book.steps + 1 + 1) (history (made_file c e)).ops ≡ marks f (book.steps + 1) (history book).ops = subst (λ m. marks f m (history (made_file c e)).ops ≡ marks f (book.steps + 1) (history book).ops) two (marks_else book (written_by n e ∷ []) t.next c.place c.op f c.there c.unmade (λ q. apart (sym q)) g.kept.sound) in
             version_alike book more f (book.steps + 1 + 1) (book.steps + 1) refl marks_ ∙ g.kept.server.fresh f (unused_created t w.dir name after f (given t g.kept.server.bounded) a u);
         bounded = s.0;
         zero = zero_after after (subst (λ (z : Goal). AfterAt t w.dir z after) (sym aim) a);
@@ -390,7 +391,7 @@ module _ (laws : FitLaws) (book : Book) (k : Core) (qs : List Queue) (n now : �
       let points : entry_file done.first ≡ Some t.next = ap entry_file first ∙ ap (λ (d : TreeEntry). entry_file (Some d)) entry in
       subst (λ (p : Tree × Finished). Leads book (rest_of qs n q us) (making_got k n now x xid p)) (sym is)
       (subst (Leads book (rest_of qs n q us)) (sym (done_step after e r ops ops_is))
-      (leads_entered book more k qs n leasing after (k.server.journal ++ written_by n e ∷ []) ops (k.entries ++ (k.steps + 1) ∷ []) x q a us (Walked r) (Some c.place) g.kept g.at g.is g.first g.unhung refl refl (ap (λ s. s + 1) g.kept.steps) more_ops entries (record {
+      (leads_entered book more k qs n leasing after (k.server.journal ++ written_by n e ∷ []) ops (k.entries ++ (k.steps + 1) ∷ []) x q a us (Walked r) (Some c.place) g.kept g.at g.is g.owned g.first g.unhung refl refl (ap (λ s. s + 1) g.kept.steps) more_ops entries (record {
         goes = goes;
         server = server_made c after done e aim.0 make step so aim.1;
         journal_is = ap (λ (l : List Entry). l ++ written_by n e ∷ []) g.kept.journal;
@@ -438,4 +439,4 @@ module _ (laws : FitLaws) (book : Book) (k : Core) (qs : List Queue) (n now : �
       by true some = serve_made done e r after some is step first second entry_is after_is leads procs
 
   pub serve_making : Leads book (rest_of qs n q us) (happens k (Serves n now (message_spell (ask_message (record { lbfs = lbfs; xid = xid; call = Walks w })))))
-  serve_making = subst (Leads book (rest_of qs n q us)) (sym step_is) (serve_so (made_walk t held w making))
+  serve_making = leads_got book k (rest_of qs n q us) n now (message_spell (ask_message a)) x g.at g.owned (subst (Leads book (rest_of qs n q us)) (sym step_is) (serve_so (made_walk t held w making)))

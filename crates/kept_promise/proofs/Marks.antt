@@ -3,7 +3,7 @@ use Rattle.std.proofs.Common.{◌≡◌, ℕ, zero, suc, ◌<◌, ◌≤◌, Lis
 use Rattle.std.specs.Option.{option_map}
 use Rattle.register_model.specs.Register.{History, later, value_at_first, value_at}
 use Rattle.kept_promise.proofs.Common.{nat_tests, slice_get, slice_set, cond, ◌==◌, ◌&&◌, nat_lt, filter, unwrap_or, option_map_or, Value, changes, value_from, changed_before, latest, value_after, Op}
-use Rattle.kept_promise.proofs.Lists.{some_is, nothing_there}
+use Rattle.kept_promise.proofs.Lists.{some_is, nothing_there, append_along}
 
 -- the point of a change, and what it leaves of its file
 abbrev pub Mark : Type 0
@@ -69,6 +69,23 @@ marks_cons f p o os = by (changed_before f p o)
     by true = refl
     by false = refl
 
+-- those of clients, and behind them those of others
+pub marks_append : (f p : ℕ) (os more : List Op) → marks f p (os ++ more) ≡ marks f p os ++ marks f p more
+marks_append f p [] more = refl
+marks_append f p (o ∷ os) more =
+    marks_cons f p o (os ++ more)
+    ∙ ap (with_mark (changed_before f p o) o) (marks_append f p os more)
+    ∙ by (changed_before f p o)
+    ∙ ap (λ (l : List Mark). l ++ marks f p more) (sym (marks_cons f p o os))
+  where
+    by : (b : Bool) → with_mark b o (marks f p os ++ marks f p more) ≡ with_mark b o (marks f p os) ++ marks f p more
+    by true = refl
+    by false = refl
+
+-- others behind them leave it so that they are the same
+pub marks_front : (f p : ℕ) (os more last : List Op) → marks f p os ≡ marks f p more → marks f p (os ++ last) ≡ marks f p (more ++ last)
+marks_front f p os more last e = marks_append f p os last ∙ ap (λ (l : List Mark). l ++ marks f p last) e ∙ sym (marks_append f p more last)
+
 none_and : (a : Bool) → (a && false) ≡ false
 none_and true = refl
 none_and false = refl
@@ -81,7 +98,7 @@ too_late f p s o e le =
     ap (λ t. (changes o.word && (o.file == f)) && option_map_or (λ q. nat_lt q p) t false) e
     ∙ ap (λ b. (changes o.word && (o.file == f)) && b) (le-ltb s p le) ∙ none_and (changes o.word && (o.file == f))
 
-elsewhere : (f p : ℕ) (o : Op) → (o.file ≡ f → ⊥) → changed_before f p o ≡ false
+pub elsewhere : (f p : ℕ) (o : Op) → (o.file ≡ f → ⊥) → changed_before f p o ≡ false
 elsewhere f p o apart = ap (λ b. (changes o.word && b) && option_map_or (λ q. nat_lt q p) o.point false) (ne_eqb o.file f apart) ∙ by (changes o.word)
   where
     by : (b : Bool) → ((b && false) && option_map_or (λ q. nat_lt q p) o.point false) ≡ false
@@ -213,6 +230,23 @@ marks_made f p (o ∷ ops) zero old new at was is = record {
 marks_made f p (o ∷ ops) (suc k) old new at was is =
     subst (Inserted (mark_of new) (marks f p (o ∷ ops))) (sym (marks_cons f p o (slice_set ops k new)))
     (subst (λ ms. Inserted (mark_of new) ms (with_mark (changed_before f p o) o (marks f p (slice_set ops k new)))) (sym (marks_cons f p o ops)) (inserted_with (mark_of new) (changed_before f p o) o (marks f p ops) (marks f p (slice_set ops k new)) (marks_made f p ops k old new at was is)))
+
+-- one more among those in front of others
+pub inserted_front : (m : Mark) (ms ns last : List Mark) → Inserted m ms ns → Inserted m (ms ++ last) (ns ++ last)
+inserted_front m ms ns last h = record { front = h.front; back = h.back ++ last; before = ap (λ (l : List Mark). l ++ last) h.before ∙ append_along h.front h.back last; after = ap (λ (l : List Mark). l ++ last) h.after ∙ append_along h.front (m ∷ h.back) last }
+
+pub inserted_among : (f p : ℕ) (o : Op) (os more last : List Op) → Inserted (mark_of o) (marks f p os) (marks f p more) → Inserted (mark_of o) (marks f p (os ++ last)) (marks f p (more ++ last))
+inserted_among f p o os more last h =
+    subst (λ (l : List Mark). Inserted (mark_of o) l (marks f p (more ++ last))) (sym (marks_append f p os last))
+    (subst (Inserted (mark_of o) (marks f p os ++ marks f p last)) (sym (marks_append f p more last)) (inserted_front (mark_of o) (marks f p os) (marks f p more) (marks f p last) h))
+
+-- or behind all
+pub inserted_last : (f p : ℕ) (o : Op) (os : List Op) → changed_before f p o ≡ true → Inserted (mark_of o) (marks f p os) (marks f p (os ++ o ∷ []))
+inserted_last f p o os is = record { front = marks f p os; back = []; before = sym (nothing_behind (marks f p os)); after = marks_append f p os (o ∷ []) ∙ ap (λ (l : List Mark). marks f p os ++ l) (marks_cons f p o [] ∙ ap (λ b. with_mark b o []) is) }
+  where
+    nothing_behind : (ms : List Mark) → ms ++ [] ≡ ms
+    nothing_behind [] = refl
+    nothing_behind (m ∷ ms) = ap (λ l. m ∷ l) (nothing_behind ms)
 
 pub inserted_count : (m : Mark) (ms ns : List Mark) → Inserted m ms ns → length ns ≡ suc (length ms)
 inserted_count m ms ns h = ap length h.after ∙ by h.front ∙ ap (λ l. suc (length l)) (sym h.before)

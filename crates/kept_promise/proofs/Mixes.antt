@@ -2,7 +2,7 @@
 use Rattle.std.proofs.Common.{◌≡◌, ℕ, zero, suc, ◌<◌, List, [], ◌∷◌, ◌++◌, Option, Some, None, Bool, true, false, refl, sym, ap, ◌∙◌, subst, map}
 use Rattle.std.specs.List.{AllByRecursion}
 use Rattle.callback_core.specs.declared.back_calls.Asked.{Asked}
-use Rattle.kept_promise.proofs.Common.{Session, Loss, Loss.Nothing, Loss.Down_of, Loss.Up_of, CoreStep, numbered, with_numbered, slice_get, slice_set, unless, Ask, Told, Queue, no_queue, Up, Up.Asks, Up.Replies, Down, Down.Tells, Down.Recalls, Mix, no_mix, asks_in, tolds_in, queue_of}
+use Rattle.kept_promise.proofs.Common.{Session, Loss, Loss.Nothing, Loss.Down_of, Loss.Up_of, CoreStep, numbered, with_numbered, slice_get, slice_set, unless, Ask, Told, Queue, no_queue, Up, Up.Asks, Up.Replies, Down, Down.Tells, Down.Recalls, Mix, no_mix, asks_in, tolds_in, queue_of, is_raw}
 use Rattle.kept_promise.proofs.Lists.{nothing_there}
 use Rattle.kept_promise.proofs.Leading.{Sends, recall_down, told_down, ups_put_in, ups_put, downs_put_in, downs_put, downs_lost, ups_lost, queues_lost, queues_after, mix_ups_in, mix_ups, mix_downs_in, mix_downs, mix_downs_lost, mix_ups_lost, mixes_lost, mixes_after}
 use Rattle.trace_ends.specs.Core.{Loss.Made}
@@ -179,6 +179,8 @@ pub record IsMix (x : Session) (m : Mix) : Type 0 where
   pub downs : AllByRecursion DownFits m.downs
   pub lost : x.hung ≡ true → m.ups ≡ []
   pub shut : x.cut ≡ true → m.downs ≡ []
+  -- what a session sends that is no client's is none of it
+  pub strange : is_raw x ≡ true → m.ups ≡ []
 
 abbrev pub AreMixes : List Session → List Mix → Type 0
 AreMixes sessions ms = (n : ℕ) (x : Session) (m : Mix) → numbered sessions n ≡ Some x → numbered ms n ≡ Some m → IsMix x m

@@ -3,15 +3,16 @@ use Rattle.std.proofs.Common.{◌⊎◌, inl, inr, ◌≡◌, ℕ, zero, suc, �
 use Rattle.std.specs.List.{AllByRecursion}
 use Rattle.callback_core.specs.declared.back_calls.Asked.{Asked}
 use Rattle.register_model.specs.declared.op.Word.{Word}
-use Rattle.kept_promise.proofs.Common.{Core, Session, ClientStep, Event, Event.Joins, Event.Does, Event.Serves, Event.Hears, Event.Settles, Event.Cuts, Event.Hangs, CoreStep, Seat, cuts_if, Loss, Loss.Nothing, Loss.Down_of, Loss.Up_of, numbered, with_numbered, new_session, session_of, commanded_sessions, cut_session, happens, unless, Ask, Told, Queue, Up, Up.Asks, Up.Replies, Down, Down.Tells, Down.Recalls, Mix, no_mix, queue_of, asks_in, tolds_in}
+use Rattle.kept_promise.proofs.Common.{Core, Session, ClientStep, Event, Event.Joins, Event.Does, Event.Serves, Event.Hears, Event.Settles, Event.Cuts, Event.Hangs, CoreStep, Seat, cuts_if, Loss, Loss.Nothing, Loss.Down_of, Loss.Up_of, numbered, with_numbered, new_session, session_of, commanded_sessions, cut_session, happens, unless, Ask, Told, Queue, Up, Up.Asks, Up.Replies, Down, Down.Tells, Down.Recalls, Mix, no_mix, queue_of, asks_in, tolds_in, Event.RawJoins, raw_session, is_raw}
 use Rattle.kept_promise.proofs.Lists.{some_is, nothing_there, same_or_not, of_appended, kept_appended, set_count}
 use Rattle.kept_promise.proofs.Turns.{also_numbered}
 use Rattle.kept_promise.proofs.Versions.{of_numbered}
-use Rattle.kept_promise.proofs.Leading.{IsFit, Sends, recall_down, told_down, sent_ups, sent_downs, mix_ups_in, mix_ups, mix_downs_in, mix_downs, mix_downs_lost, mix_ups_lost, mixes_lost, mixes_after}
+use Rattle.kept_promise.proofs.Leading.{IsFit, Sends, recall_down, told_down, sent_ups, sent_downs, mix_ups_in, mix_ups, mix_downs_in, mix_downs, mix_downs_lost, mix_ups_lost, mixes_lost, mixes_after, IsSentOwned}
 use Rattle.kept_promise.proofs.Happens.{Happens, what_happens}
 use Rattle.kept_promise.proofs.Mixes.{UpFits, DownFits, IsMix, AreMixes, there_plain, with_plain, with_same}
-use Rattle.kept_promise.proofs.RunsCarried.{FindsAsk, FindsReply, FindsTold, FindsRecall, Finds, FindsMix}
+use Rattle.kept_promise.proofs.RunsCarried.{FindsAsk, FindsReply, FindsTold, FindsRecall, Finds, FindsMix, FindsUp, FindsRaw}
 use Rattle.trace_ends.specs.Core.{Loss.Made, loss_down}
+use Rattle.kept_promise.proofs.OwnersKept.{raw_same}
 
 pub map_count : {A B : Type 0} (f : A → B) (xs : List A) → length (map f xs) ≡ length xs
 map_count f [] = refl
@@ -38,7 +39,7 @@ some_none x xs e = absurd (by e)
 session_at : (k : Core) (ms : List Mix) (n : ℕ) (m : Mix) → length (map queue_of ms) ≡ length k.sessions → numbered ms n ≡ Some m → (x : Session) × (numbered k.sessions n ≡ Some x)
 session_at k ms n m counts at = also_numbered ms k.sessions n m (sym counts ∙ map_count queue_of ms) at
 
-ups_plain : (k : Core) (ms : List Mix) (n now : ℕ) (bytes : List ℕ) (mid : List Mix) → length (map queue_of ms) ≡ length k.sessions → AreMixes k.sessions ms → (f : FindsMix k ms (Serves n now bytes) mid) → (u : Up) → f.1 ≡ u → FindsAsk (map queue_of ms) n bytes (map queue_of mid) ⊎ FindsReply k (map queue_of ms) n bytes (map queue_of mid)
+pub ups_plain : (k : Core) (ms : List Mix) (n now : ℕ) (bytes : List ℕ) (mid : List Mix) → length (map queue_of ms) ≡ length k.sessions → AreMixes k.sessions ms → (f : FindsUp ms n bytes mid) → (u : Up) → f.1 ≡ u → FindsAsk (map queue_of ms) n bytes (map queue_of mid) ⊎ FindsReply k (map queue_of ms) n bytes (map queue_of mid)
 ups_plain k ms n now bytes mid counts fit (m, Asks a, us, at, is, bytes_is, mid_is) u e = inl (queue_of m, a, asks_in us, there_plain ms n m at, ap asks_in is, bytes_is, ap (map queue_of) mid_is ∙ with_plain ms n (record m { ups = us }))
 ups_plain k ms n now bytes mid counts fit (m, Replies xid, us, at, is, bytes_is, mid_is) u e =
     let x = session_at k ms n m counts at in
@@ -46,11 +47,16 @@ ups_plain k ms n now bytes mid counts fit (m, Replies xid, us, at, is, bytes_is,
     inr (record {
       session = x.0;
       at = x.1;
+      unhung = up_stands x.0 x.0.hung refl (fit n x.0 m x.1 at).lost;
       xid = xid;
       fits = small.0;
       bytes_is = bytes_is;
       mid_is = ap (map queue_of) mid_is ∙ with_plain ms n (record m { ups = us }) ∙ ap (λ l. with_numbered (map queue_of ms) n (record { ups = l; downs = tolds_in m.downs })) (sym (ap asks_in is)) ∙ with_same (map queue_of ms) n (queue_of m) (there_plain ms n m at);
     })
+  where
+    up_stands : (x : Session) (b : Bool) → x.hung ≡ b → (x.hung ≡ true → m.ups ≡ []) → x.hung ≡ false
+    up_stands x false e lost = e
+    up_stands x true e lost = some_none (Replies xid) us (sym is ∙ lost e)
 
 downs_plain : (k : Core) (ms : List Mix) (n now : ℕ) (bytes : List ℕ) (mid : List Mix) → length (map queue_of ms) ≡ length k.sessions → AreMixes k.sessions ms → (f : FindsMix k ms (Hears n now bytes) mid) → (d : Down) → f.1 ≡ d → FindsTold (map queue_of ms) n bytes (map queue_of mid) ⊎ FindsRecall k (map queue_of ms) n bytes (map queue_of mid)
 downs_plain k ms n now bytes mid counts fit (m, Tells t, ds, at, is, bytes_is, mid_is) d e = inl (queue_of m, t, tolds_in ds, there_plain ms n m at, ap tolds_in is, bytes_is, ap (map queue_of) mid_is ∙ with_plain ms n (record m { downs = ds }))
@@ -75,13 +81,15 @@ downs_plain k ms n now bytes mid counts fit (m, Recalls xid file, ds, at, is, by
     by x true e shut = some_none (Recalls xid file) ds (sym is ∙ shut e)
 
 pub finds_plain : (k : Core) (ms : List Mix) (e : Event) (mid : List Mix) → length (map queue_of ms) ≡ length k.sessions → AreMixes k.sessions ms → FindsMix k ms e mid → Finds k (map queue_of ms) e (map queue_of mid)
-finds_plain k ms (Serves n now bytes) mid counts fit f = ups_plain k ms n now bytes mid counts fit f f.1 refl
+finds_plain k ms (Serves n now bytes) mid counts fit (inl f) = elim (ups_plain k ms n now bytes mid counts fit f f.1 refl) [ inl ask ↦ inl ask | inr reply ↦ inr (inl reply) ]
+finds_plain k ms (Serves n now bytes) mid counts fit (inr f) = inr (inr (f.0, f.1, f.2, ap (map queue_of) f.3, f.4))
 finds_plain k ms (Hears n now bytes) mid counts fit f = downs_plain k ms n now bytes mid counts fit f f.1 refl
 finds_plain k ms (Joins c) mid counts fit f = subst (λ (z : List Mix). Finds k (map queue_of ms) (Joins c) (map queue_of z)) (sym f.1) f.0
 finds_plain k ms (Does c now d) mid counts fit f = subst (λ (z : List Mix). Finds k (map queue_of ms) (Does c now d) (map queue_of z)) (sym f.1) f.0
 finds_plain k ms (Settles now) mid counts fit f = subst (λ (z : List Mix). Finds k (map queue_of ms) (Settles now) (map queue_of z)) (sym f.1) f.0
 finds_plain k ms (Cuts c) mid counts fit f = subst (λ (z : List Mix). Finds k (map queue_of ms) (Cuts c) (map queue_of z)) (sym f.1) f.0
 finds_plain k ms (Hangs n) mid counts fit f = subst (λ (z : List Mix). Finds k (map queue_of ms) (Hangs n) (map queue_of z)) (sym f.1) f.0
+finds_plain k ms RawJoins mid counts fit f = subst (λ (z : List Mix). Finds k (map queue_of ms) RawJoins (map queue_of z)) (sym f.1) f.0
 
 -- ---- without the first of them
 
@@ -92,32 +100,38 @@ less_fit sessions ms n m l fit at less i x z there on = elim (of_numbered ms n l
 ]
 
 mid_fit : (k : Core) (ms : List Mix) (e : Event) (mid : List Mix) → AreMixes k.sessions ms → FindsMix k ms e mid → AreMixes k.sessions mid
-mid_fit k ms (Serves n now bytes) mid fit (m, u, us, at, is, bytes_is, mid_is) = subst (AreMixes k.sessions) (sym mid_is) (less_fit k.sessions ms n m (record m { ups = us }) fit at (λ x h. record {
+mid_fit k ms (Serves n now bytes) mid fit (inr f) = subst (AreMixes k.sessions) (sym f.3) fit
+mid_fit k ms (Serves n now bytes) mid fit (inl (m, u, us, at, is, bytes_is, mid_is)) = subst (AreMixes k.sessions) (sym mid_is) (less_fit k.sessions ms n m (record m { ups = us }) fit at (λ x h. record {
   ups = (subst (AllByRecursion UpFits) is h.ups).1;
   downs = h.downs;
   lost = λ hung. some_none u us (sym is ∙ h.lost hung);
   shut = h.shut;
+  strange = λ raw. some_none u us (sym is ∙ h.strange raw);
 }))
 mid_fit k ms (Hears n now bytes) mid fit (m, d, ds, at, is, bytes_is, mid_is) = subst (AreMixes k.sessions) (sym mid_is) (less_fit k.sessions ms n m (record m { downs = ds }) fit at (λ x h. record {
   ups = h.ups;
   downs = (subst (AllByRecursion DownFits) is h.downs).1;
   lost = h.lost;
   shut = λ cut. some_none d ds (sym is ∙ h.shut cut);
+  strange = h.strange;
 }))
 mid_fit k ms (Joins c) mid fit f = subst (AreMixes k.sessions) (sym f.1) fit
 mid_fit k ms (Does c now d) mid fit f = subst (AreMixes k.sessions) (sym f.1) fit
 mid_fit k ms (Settles now) mid fit f = subst (AreMixes k.sessions) (sym f.1) fit
 mid_fit k ms (Cuts c) mid fit f = subst (AreMixes k.sessions) (sym f.1) fit
 mid_fit k ms (Hangs n) mid fit f = subst (AreMixes k.sessions) (sym f.1) fit
+mid_fit k ms RawJoins mid fit f = subst (AreMixes k.sessions) (sym f.1) fit
 
 mid_count : (k : Core) (ms : List Mix) (e : Event) (mid : List Mix) → FindsMix k ms e mid → length mid ≡ length ms
-mid_count k ms (Serves n now bytes) mid f = ap length f.6 ∙ with_count ms n _
+mid_count k ms (Serves n now bytes) mid (inl f) = ap length f.6 ∙ with_count ms n _
+mid_count k ms (Serves n now bytes) mid (inr f) = ap length f.3
 mid_count k ms (Hears n now bytes) mid f = ap length f.6 ∙ with_count ms n _
 mid_count k ms (Joins c) mid f = ap length f.1
 mid_count k ms (Does c now d) mid f = ap length f.1
 mid_count k ms (Settles now) mid f = ap length f.1
 mid_count k ms (Cuts c) mid f = ap length f.1
 mid_count k ms (Hangs n) mid f = ap length f.1
+mid_count k ms RawJoins mid f = ap length f.1
 
 -- ---- what an event makes of sessions
 
@@ -166,49 +180,55 @@ ways_of k e = what_happens k e (Ways k) (record {
   joins = λ c seat is. made (new_session c) refl refl;
   refuses = λ c seat is. same refl (as_were k.sessions);
   does = λ c now d seat is. same refl (commanded_as k.sessions seat.session seat.place (length k.ops) _ _);
-  takes = λ n now bytes x m is at read. same refl (one_as k.sessions n x _ at refl refl);
+  takes = λ n now bytes x m is at unhung read. same refl (one_as k.sessions n x _ at refl refl);
   hears = λ n now bytes owner seat is. same refl (as_were k.sessions);
   settles = λ now is. same refl (as_were k.sessions);
   cuts = λ c seat is. cut_ways k c seat seat.session refl;
-  hangs = λ n x is at. hung n refl (λ m y there. elim (of_numbered k.sessions n (record x { hung = true }) m y there) [
+  hangs = λ n x is at unhung. hung n refl (λ m y there. elim (of_numbered k.sessions n (record x { hung = true }) m y there) [
     | inl mine ↦ (x, ap (numbered k.sessions) mine.0 ∙ at, inr mine.0, ap (λ (s : Session). s.cut) mine.1)
     | inr away ↦ (y, away.1, inl refl, refl)
   ]);
+  closes = λ n now bytes x is at unhung. hung n refl (λ m y there. elim (of_numbered k.sessions n (record x { hung = true }) m y there) [
+    | inl mine ↦ (x, ap (numbered k.sessions) mine.0 ∙ at, inr mine.0, ap (λ (s : Session). s.cut) mine.1)
+    | inr away ↦ (y, away.1, inl refl, refl)
+  ]);
+  raw_joins = λ is. made (raw_session) refl refl;
+  raw_refuses = λ is. same refl (as_were k.sessions);
 })
 
 -- ---- what is lost
 
-lost_fit : (k : Core) (mid : List Mix) (t : CoreStep) → length mid ≡ length k.sessions → AreMixes k.sessions mid → Ways k t → AreMixes t.core.sessions (mixes_lost mid t.loss)
-lost_fit k mid t count fit (same loss were) = subst (λ (l : Loss). AreMixes t.core.sessions (mixes_lost mid l)) (sym loss) (λ n y m at on. let x = were n y at in let h = fit n x.0 m x.1 on in record { ups = h.ups; downs = h.downs; lost = λ e. h.lost (sym x.2 ∙ e); shut = λ e. h.shut (sym x.3 ∙ e) })
-lost_fit k mid t count fit (made new loss is) = subst (λ (l : Loss). AreMixes t.core.sessions (mixes_lost mid l)) (sym loss) (subst (λ (ss : List Session). AreMixes ss (mid ++ no_mix ∷ [])) (sym is) by)
+lost_fit : (k : Core) (mid : List Mix) (t : CoreStep) → length mid ≡ length k.sessions → AreMixes k.sessions mid → ((n : ℕ) (x y : Session) → numbered k.sessions n ≡ Some x → numbered t.core.sessions n ≡ Some y → is_raw x ≡ is_raw y) → Ways k t → AreMixes t.core.sessions (mixes_lost mid t.loss)
+lost_fit k mid t count fit stay (same loss were) = subst (λ (l : Loss). AreMixes t.core.sessions (mixes_lost mid l)) (sym loss) (λ n y m at on. let x = were n y at in let h = fit n x.0 m x.1 on in record { ups = h.ups; downs = h.downs; lost = λ e. h.lost (sym x.2 ∙ e); shut = λ e. h.shut (sym x.3 ∙ e); strange = λ e. h.strange (stay n x.0 y x.1 at ∙ e) })
+lost_fit k mid t count fit stay (made new loss is) = subst (λ (l : Loss). AreMixes t.core.sessions (mixes_lost mid l)) (sym loss) (subst (λ (ss : List Session). AreMixes ss (mid ++ no_mix ∷ [])) (sym is) by)
   where
     by : AreMixes (k.sessions ++ new ∷ []) (mid ++ no_mix ∷ [])
     by zero y m at on = nothing_there y at
     by (suc n) y m at on = elim (of_appended mid no_mix n m on) [
-      | inl last ↦ subst (IsMix y) (sym last.1) (record { ups = tt; downs = tt; lost = λ e. refl; shut = λ e. refl })
+      | inl last ↦ subst (IsMix y) (sym last.1) (record { ups = tt; downs = tt; lost = λ e. refl; shut = λ e. refl; strange = λ e. refl })
       | inr old ↦ (let x = also_numbered mid k.sessions (suc n) m (sym count) old in subst (λ (s : Session). IsMix s m) (some_is x.0 y (sym (kept_appended k.sessions new n x.0 x.1) ∙ at)) (fit (suc n) x.0 m x.1 old))
     ]
-lost_fit k mid t count fit (cut l loss were) = subst (λ (z : Loss). AreMixes t.core.sessions (mixes_lost mid z)) (sym loss) (by (numbered mid l) refl)
+lost_fit k mid t count fit stay (cut l loss were) = subst (λ (z : Loss). AreMixes t.core.sessions (mixes_lost mid z)) (sym loss) (by (numbered mid l) refl)
   where
     by : (o : Option Mix) → numbered mid l ≡ o → AreMixes t.core.sessions (mix_downs_lost mid l o)
     by None none = λ n y m at on.
         let x = were n y at in
         let h = fit n x.0 m x.1 on in
-        record { ups = h.ups; downs = h.downs; lost = λ e. h.lost (sym x.2 ∙ e); shut = λ e. elim x.3 [ inl c ↦ h.shut (sym c ∙ e) | inr mine ↦ nothing_there m (sym none ∙ ap (numbered mid) (sym mine) ∙ on) ] }
+        record { ups = h.ups; downs = h.downs; lost = λ e. h.lost (sym x.2 ∙ e); shut = λ e. elim x.3 [ inl c ↦ h.shut (sym c ∙ e) | inr mine ↦ nothing_there m (sym none ∙ ap (numbered mid) (sym mine) ∙ on) ]; strange = λ e. h.strange (stay n x.0 y x.1 at ∙ e) }
     by (Some q) there = λ n y m at on. elim (of_numbered mid l (record q { downs = [] }) n m on) [
-      | inl mine ↦ (let x = were n y at in let h = fit n x.0 q x.1 (ap (numbered mid) mine.0 ∙ there) in subst (IsMix y) (sym mine.1) (record { ups = h.ups; downs = tt; lost = λ e. h.lost (sym x.2 ∙ e); shut = λ e. refl }))
-      | inr away ↦ (let x = were n y at in let h = fit n x.0 m x.1 away.1 in record { ups = h.ups; downs = h.downs; lost = λ e. h.lost (sym x.2 ∙ e); shut = λ e. elim x.3 [ inl c ↦ h.shut (sym c ∙ e) | inr mine ↦ absurd (away.0 mine) ] })
+      | inl mine ↦ (let x = were n y at in let h = fit n x.0 q x.1 (ap (numbered mid) mine.0 ∙ there) in subst (IsMix y) (sym mine.1) (record { ups = h.ups; downs = tt; lost = λ e. h.lost (sym x.2 ∙ e); shut = λ e. refl; strange = λ e. h.strange (stay n x.0 y x.1 at ∙ e) }))
+      | inr away ↦ (let x = were n y at in let h = fit n x.0 m x.1 away.1 in record { ups = h.ups; downs = h.downs; lost = λ e. h.lost (sym x.2 ∙ e); shut = λ e. elim x.3 [ inl c ↦ h.shut (sym c ∙ e) | inr mine ↦ absurd (away.0 mine) ]; strange = λ e. h.strange (stay n x.0 y x.1 at ∙ e) })
     ]
-lost_fit k mid t count fit (hung l loss were) = subst (λ (z : Loss). AreMixes t.core.sessions (mixes_lost mid z)) (sym loss) (by (numbered mid l) refl)
+lost_fit k mid t count fit stay (hung l loss were) = subst (λ (z : Loss). AreMixes t.core.sessions (mixes_lost mid z)) (sym loss) (by (numbered mid l) refl)
   where
     by : (o : Option Mix) → numbered mid l ≡ o → AreMixes t.core.sessions (mix_ups_lost mid l o)
     by None none = λ n y m at on.
         let x = were n y at in
         let h = fit n x.0 m x.1 on in
-        record { ups = h.ups; downs = h.downs; lost = λ e. elim x.2 [ inl c ↦ h.lost (sym c ∙ e) | inr mine ↦ nothing_there m (sym none ∙ ap (numbered mid) (sym mine) ∙ on) ]; shut = λ e. h.shut (sym x.3 ∙ e) }
+        record { ups = h.ups; downs = h.downs; lost = λ e. elim x.2 [ inl c ↦ h.lost (sym c ∙ e) | inr mine ↦ nothing_there m (sym none ∙ ap (numbered mid) (sym mine) ∙ on) ]; shut = λ e. h.shut (sym x.3 ∙ e); strange = λ e. h.strange (stay n x.0 y x.1 at ∙ e) }
     by (Some q) there = λ n y m at on. elim (of_numbered mid l (record q { ups = [] }) n m on) [
-      | inl mine ↦ (let x = were n y at in let h = fit n x.0 q x.1 (ap (numbered mid) mine.0 ∙ there) in subst (IsMix y) (sym mine.1) (record { ups = tt; downs = h.downs; lost = λ e. refl; shut = λ e. h.shut (sym x.3 ∙ e) }))
-      | inr away ↦ (let x = were n y at in let h = fit n x.0 m x.1 away.1 in record { ups = h.ups; downs = h.downs; lost = λ e. elim x.2 [ inl c ↦ h.lost (sym c ∙ e) | inr mine ↦ absurd (away.0 mine) ]; shut = λ e. h.shut (sym x.3 ∙ e) })
+      | inl mine ↦ (let x = were n y at in let h = fit n x.0 q x.1 (ap (numbered mid) mine.0 ∙ there) in subst (IsMix y) (sym mine.1) (record { ups = tt; downs = h.downs; lost = λ e. refl; shut = λ e. h.shut (sym x.3 ∙ e); strange = λ e. refl }))
+      | inr away ↦ (let x = were n y at in let h = fit n x.0 m x.1 away.1 in record { ups = h.ups; downs = h.downs; lost = λ e. elim x.2 [ inl c ↦ h.lost (sym c ∙ e) | inr mine ↦ absurd (away.0 mine) ]; shut = λ e. h.shut (sym x.3 ∙ e); strange = λ e. h.strange (stay n x.0 y x.1 at ∙ e) })
     ]
 
 -- ---- what is sent
@@ -226,9 +246,9 @@ unless_lost : {A : Type 0} (b : Bool) (xs ys : List A) → b ≡ true → xs ≡
 unless_lost true xs ys e none = none
 unless_lost false xs ys e none = false_true e
 
-ups_fit : (sessions : List Session) (ms : List Mix) (o : Option ℕ) (us : List Up) → AllByRecursion UpFits us → AreMixes sessions ms → AreMixes sessions (mix_ups sessions ms o us)
-ups_fit sessions ms None us small fit = fit
-ups_fit sessions ms (Some n) us small fit = by (numbered sessions n) (numbered ms n) refl refl
+ups_fit : (sessions : List Session) (ms : List Mix) (o : Option ℕ) (us : List Up) → AllByRecursion UpFits us → ((n : ℕ) (y : Session) → o ≡ Some n → numbered sessions n ≡ Some y → is_raw y ≡ false) → AreMixes sessions ms → AreMixes sessions (mix_ups sessions ms o us)
+ups_fit sessions ms None us small owned fit = fit
+ups_fit sessions ms (Some n) us small owned fit = by (numbered sessions n) (numbered ms n) refl refl
   where
     by : (x : Option Session) (m : Option Mix) → numbered sessions n ≡ x → numbered ms n ≡ m → AreMixes sessions (mix_ups_in ms n us x m)
     by None m there at = fit
@@ -240,6 +260,7 @@ ups_fit sessions ms (Some n) us small fit = by (numbered sessions n) (numbered m
         downs = h.downs;
         lost = λ e. unless_lost x.hung m.ups us e (h.lost e);
         shut = h.shut;
+        strange = λ raw. false_true (sym (owned n x refl there) ∙ raw);
       })))
     ]
 
@@ -256,6 +277,7 @@ down_fit sessions ms p small fit = by (numbered sessions p.0) (numbered ms p.0) 
         downs = unless_fit DownFits x.cut m.downs (p.1 ∷ []) h.downs (small, tt);
         lost = h.lost;
         shut = λ e. unless_lost x.cut m.downs (p.1 ∷ []) e (h.shut e);
+        strange = h.strange;
       })))
     ]
 
@@ -281,9 +303,9 @@ downs_small [] ts h = by ts
 
 -- ---- any event
 
-pub mixes_fit : (k : Core) (ms : List Mix) (e : Event) (mid : List Mix) (s : Sends (happens k e)) → length (map queue_of ms) ≡ length k.sessions → AreMixes k.sessions ms → FindsMix k ms e mid → AreMixes (happens k e).core.sessions (mixes_after mid (happens k e) s)
-mixes_fit k ms e mid s counts fit f =
+pub mixes_fit : (k : Core) (ms : List Mix) (e : Event) (mid : List Mix) (s : Sends (happens k e)) → length (map queue_of ms) ≡ length k.sessions → AreMixes k.sessions ms → IsSentOwned (happens k e) → FindsMix k ms e mid → AreMixes (happens k e).core.sessions (mixes_after mid (happens k e) s)
+mixes_fit k ms e mid s counts fit owned f =
     let t : CoreStep = happens k e in
-    let lost : AreMixes t.core.sessions (mixes_lost mid t.loss) = lost_fit k mid t (mid_count k ms e mid f ∙ sym (map_count queue_of ms) ∙ counts) (mid_fit k ms e mid fit f) (ways_of k e) in
+    let lost : AreMixes t.core.sessions (mixes_lost mid t.loss) = lost_fit k mid t (mid_count k ms e mid f ∙ sym (map_count queue_of ms) ∙ counts) (mid_fit k ms e mid fit f) (raw_same k e) (ways_of k e) in
     downs_fit t.core.sessions (mix_ups t.core.sessions (mixes_lost mid t.loss) t.session (sent_ups t s)) (sent_downs t s) (downs_small s.recalls s.tolds s.recalls_fit)
-    (ups_fit t.core.sessions (mixes_lost mid t.loss) t.session (sent_ups t s) (ups_small s.replies s.asks s.replies_fit) lost)
+    (ups_fit t.core.sessions (mixes_lost mid t.loss) t.session (sent_ups t s) (ups_small s.replies s.asks s.replies_fit) owned lost)

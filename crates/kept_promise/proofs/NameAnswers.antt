@@ -15,7 +15,7 @@ use Rattle.chunk_calls.specs.Writing.{cond_most}
 use Rattle.server_core.specs.declared.event.Sent.{Sent}
 use Rattle.trace_replay.specs.Saving.{name_call, name_told, name_answer}
 use Rattle.kept_promise.proofs.CallsAlike.{call_read}
-use Rattle.kept_promise.proofs.Common.{nat_lt, if◌then◌else◌, ◌==◌, ◌||◌, list_any, Contains, Contains-push_cases, Contains-append_cases, Answer, Done, Failed, Status, Body, Message, parse_of, Temp, size_most, temp_at, room_fault, piece_fault, assembled, without_temp, Node, directory, file, node_of, File, FileChange, called, got_if, stands, at, makes, makes_unless, makes_change, names, names_unless, names_bytes, bytes_known, cond_fault, writes_unless, takes_commit, takes_commit_on, commits_whole, has_waiting, is_full, Core, Event, Event.Serves, CoreStep, server_waiting, server_waits, does, joins, hears, cuts, hangs, happens, Wanted, Tree, change_of}
+use Rattle.kept_promise.proofs.Common.{nat_lt, if◌then◌else◌, ◌==◌, ◌||◌, list_any, Contains, Contains-push_cases, Contains-append_cases, Answer, Done, Failed, Status, Body, Message, parse_of, Temp, size_most, temp_at, room_fault, piece_fault, assembled, without_temp, Node, directory, file, node_of, File, FileChange, called, got_if, stands, at, makes, makes_unless, makes_change, names, names_unless, names_bytes, bytes_known, cond_fault, writes_unless, takes_commit, takes_commit_on, commits_whole, has_waiting, is_full, Core, Event, Event.Serves, CoreStep, server_waiting, server_waits, does, joins, hears, cuts, hangs, happens, Wanted, Tree, change_of, not, numbered}
 use Rattle.tree_calls.specs.Waiting.{file_of}
 use Rattle.server_core.specs.Recalling.{comes, recall_sent, recalls_for}
 use Rattle.server_core.specs.Leasing.{asking}
@@ -27,6 +27,7 @@ use Rattle.tree_calls.specs.Waiting.{calls}
 use Rattle.tree_calls.specs.declared.asked.Outcome.{Outcome}
 use Rattle.tree_calls.specs.declared.asked.Outcome.TheVariants.{Answered, Waits as ToWait}
 use Rattle.kept_promise.proofs.Happens.{what_happens}
+use Rattle.trace_replay.specs.Trail.{can_hang}
 
 -- ---- what a CONDWRITE comes to
 
@@ -184,6 +185,7 @@ pub record NameTaken (k : Core) (e : Event) (n xid : ℕ) (r : Answer Unit Unit)
   pub now : ℕ
   pub bytes : List ℕ
   pub event_is : e ≡ Serves n now bytes
+  pub stands : can_hang (numbered k.sessions n) ≡ true
   pub piece : CondPiece
   pub call_is : parse_of server_waiting bytes ≡ Ok (name_call xid piece)
   pub comes : ComesTo k.server piece (temp_at k.server.temps n piece.fd) r
@@ -215,32 +217,36 @@ name_taken k e = what_happens k e (SentBy k e) (record {
   joins = λ c seat is. quietly k e _ tt;
   refuses = λ c seat is. quietly k e _ tt;
   does = λ c now d seat is. quietly k e _ tt;
-  takes = λ m now bytes x z is there read. record { taken = λ n y r c. subst (λ (w : Event). NameTaken k w n y r) (sym is) (got_by m now bytes z read (stands k.server m) n y r c) };
+  takes = λ m now bytes x z is there unhung read. record { taken = λ n y r c. subst (λ (w : Event). NameTaken k w n y r) (sym is) (got_by m now bytes z (ap can_hang there ∙ ap not unhung) read (stands k.server m) n y r c) };
   hears = λ m now bytes owner seat is. quietly k e _ tt;
   settles = λ now is. quietly k e _ (settled now (ready_by k.server now));
   cuts = λ c seat is. quietly k e _ tt;
-  hangs = λ m x is there. quietly k e _ tt;
+  hangs = λ m x is there unhung. quietly k e _ tt;
+  closes = λ m now bytes x is there unhung. quietly k e _ tt;
+  raw_joins = λ is. quietly k e _ tt;
+  raw_refuses = λ is. quietly k e _ tt;
 })
   where
-    called_by : (m now : ℕ) (bytes : List ℕ) (xid : ℕ) (b : Body) → parse_of server_waiting bytes ≡ Ok (message.Call xid b) → Answers (at k.server now) m xid b (called (at k.server now) m xid b).1.send → (n y : ℕ) (r : Answer Unit Unit) → Contains (called (at k.server now) m xid b).1.send (record { session = n; message = name_told y r }) → NameTaken k (Serves m now bytes) n y r
-    called_by m now bytes xid b is (inr other) n y r c = absurd (other_sent (called (at k.server now) m xid b).1.send n y r other c)
-    called_by m now bytes xid b is (inl (a, names_it, (s, comes, sent))) n y r c =
+    called_by : (m now : ℕ) (bytes : List ℕ) (xid : ℕ) (b : Body) → can_hang (numbered k.sessions m) ≡ true → parse_of server_waiting bytes ≡ Ok (message.Call xid b) → Answers (at k.server now) m xid b (called (at k.server now) m xid b).1.send → (n y : ℕ) (r : Answer Unit Unit) → Contains (called (at k.server now) m xid b).1.send (record { session = n; message = name_told y r }) → NameTaken k (Serves m now bytes) n y r
+    called_by m now bytes xid b stood is (inr other) n y r c = absurd (other_sent (called (at k.server now) m xid b).1.send n y r other c)
+    called_by m now bytes xid b stood is (inl (a, names_it, (s, comes, sent))) n y r c =
         let same = same_sent m n xid y s r (subst (λ l. Contains l (record { session = n; message = name_told y r })) sent c) in
         subst (λ z. NameTaken k (Serves m now bytes) z y r) (sym same.0) (subst (λ z. NameTaken k (Serves m now bytes) m z r) (sym same.1) (subst (NameTaken k (Serves m now bytes) m xid) (sym same.2) (record {
           now = now;
           bytes = bytes;
           event_is = refl;
+          stands = stood;
           piece = a;
           call_is = is ∙ ap (λ z. Ok (message.Call xid z)) names_it;
           comes = comes;
         })))
 
-    got_by : (m now : ℕ) (bytes : List ℕ) (z : Message) → parse_of (server_waits k m) bytes ≡ Ok z → (b : Bool) → (n y : ℕ) (r : Answer Unit Unit) → Contains (got_if k.server b m z now).1.send (record { session = n; message = name_told y r }) → NameTaken k (Serves m now bytes) n y r
-    got_by m now bytes (message.Call xid b) is true n y r c = called_by m now bytes xid b (call_read k m bytes xid b is) (call_answers (at k.server now) m xid b) n y r c
-    got_by m now bytes (message.Unfit xid why) is true n y r c = absurd (other_sent (got_if k.server true m (message.Unfit xid why) now).1.send n y r (tt, tt) c)
-    got_by m now bytes (message.Answer xid b) is true n y r c = absurd (other_sent [] n y r tt c)
-    got_by m now bytes (message.Refuse xid why) is true n y r c = absurd (other_sent [] n y r tt c)
-    got_by m now bytes z is false n y r c = absurd (other_sent [] n y r tt c)
+    got_by : (m now : ℕ) (bytes : List ℕ) (z : Message) → can_hang (numbered k.sessions m) ≡ true → parse_of (server_waits k m) bytes ≡ Ok z → (b : Bool) → (n y : ℕ) (r : Answer Unit Unit) → Contains (got_if k.server b m z now).1.send (record { session = n; message = name_told y r }) → NameTaken k (Serves m now bytes) n y r
+    got_by m now bytes (message.Call xid b) stood is true n y r c = called_by m now bytes xid b stood (call_read k m bytes xid b is) (call_answers (at k.server now) m xid b) n y r c
+    got_by m now bytes (message.Unfit xid why) stood is true n y r c = absurd (other_sent (got_if k.server true m (message.Unfit xid why) now).1.send n y r (tt, tt) c)
+    got_by m now bytes (message.Answer xid b) stood is true n y r c = absurd (other_sent [] n y r tt c)
+    got_by m now bytes (message.Refuse xid why) stood is true n y r c = absurd (other_sent [] n y r tt c)
+    got_by m now bytes z stood is false n y r c = absurd (other_sent [] n y r tt c)
 
     made : (s : server.State) (c : FileChange) (a : Wanted) → AreOther (makes_change s c a).1.send
     made s c (wanted.Content x) = (tt, tt)

@@ -2,7 +2,9 @@
 use Rattle.std.proofs.Common.{◌⊎◌, inl, inr, ◌≡◌, ℕ, List, [], ◌∷◌, ◌++◌, length, Option, Some, None, Result, Ok, Err, Bool, true, false, refl, sym, ap, ◌∙◌, subst, arith, map}
 use Rattle.hash_calls.specs.declared.message.Lb.TheVariants as lb
 use Rattle.nfs3_calls.specs.declared.message.Nfs.{Nfs}
+use Rattle.wire.specs.declared.message.Body.{Body}
 use Rattle.wire.specs.declared.message.Body.TheVariants as body
+use Rattle.wire.specs.declared.fault.WireFault.TheVariants as fault
 use Rattle.wire.specs.declared.message.Message.TheVariants as message
 use Rattle.tree_nodes.specs.declared.node.Node.{Node}
 use Rattle.tree_nodes.specs.declared.node.Body.TheVariants.{File as Plain}
@@ -27,29 +29,31 @@ use Rattle.path_calls.specs.declared.answers.Told.TheVariants as told
 use Rattle.path_calls.specs.declared.walk.Goal.{Goal}
 use Rattle.path_calls.specs.declared.walk.Goal.TheVariants as goal
 use Rattle.path_calls.specs.declared.walk.Walk.{Walk}
-use Rattle.trace_replay.specs.NameChanges.{names_of, KeepsNames, ChangesNames, MakesOf, TakesNaming, MakesNaming, NamesChangeBy}
+use Rattle.trace_replay.specs.NameChanges.{names_of, KeepsNames, ChangesNames, MakesOf, TakesNaming, MakesNaming, NamesChangeBy, IsOwnNaming, ChangesRaw}
+use Rattle.trace_replay.specs.PendingChanges.{EndsSession, ClosesRaw}
 use Rattle.server_law.proofs.lemmas.Trees.{IsBounded}
-use Rattle.trace_ends.specs.Core.{server_got}
+use Rattle.trace_ends.specs.Core.{Loss, Loss.Nothing, Loss.Up_of, server_got, serves_none}
 use Rattle.trace_replay.specs.Naming.{refusal_of}
 use Rattle.trace_replay.specs.OwnCalls.{ComesTo, held_at, others_waiting}
-use Rattle.kept_promise.proofs.Common.{cond, if◌then◌else◌, ◌==◌, filter, not, slice_get, Contains, Contains-append_left, Contains-append_right, Contains-push, Contains-push_cases, Status, Message, WireFault, parse_of, Tree, FileChange, Wanted, server_step, stands, at, has_waiting, Op, Opening, Core, Session, Event, Event.Serves, Event.Settles, CoreStep, numbered, server_waiting, server_waits, serves_if, serves, does, joins, hears, cuts, hangs_if, hangs, happens, Moment, step_of, client_of, is_in, Book, Queue, Ask, NameReply, name_answer, ask_message, Call, Call.Walks}
+use Rattle.kept_promise.proofs.Common.{cond, if◌then◌else◌, ◌==◌, filter, not, slice_get, Contains, Contains-append_left, Contains-append_right, Contains-push, Contains-push_cases, Status, Message, WireFault, parse_of, Tree, FileChange, Wanted, server_step, stands, at, has_waiting, Op, Opening, Core, Session, Event, Event.Serves, Event.Settles, CoreStep, numbered, server_waiting, server_waits, serves_if, serves, does, joins, hears, cuts, hangs_if, hangs, happens, Moment, step_of, client_of, is_in, Book, Queue, Ask, NameReply, name_answer, ask_message, Call, Call.Walks, is_raw, serves_unless}
 use Rattle.server_core.specs.Closing.{makes_change}
-use Rattle.kept_promise.proofs.Lists.{nothing_there, of_appended}
+use Rattle.kept_promise.proofs.Lists.{some_is, nothing_there, of_appended, true_and_false}
 use Rattle.kept_promise.proofs.Messages.{AllAsks, AsksFor, walk_for, walk_is}
 use Rattle.kept_promise.proofs.Fits.{FitLaws}
 use Rattle.kept_promise.proofs.Rights.{WasThere}
 use Rattle.kept_promise.proofs.Facts.{IsWanted, IsSession, IsKept}
 use Rattle.kept_promise.proofs.Gone.{no_directory}
 use Rattle.kept_promise.proofs.Statements.{CallFits}
-use Rattle.kept_promise.proofs.Turns.{also_numbered}
+use Rattle.kept_promise.proofs.Turns.{also_numbered, owned_up, unhung_up, raw_or_owned}
 use Rattle.kept_promise.proofs.RunsCarried.{book_at, moment, Finds, FindsAsk, Step, Carried}
 use Rattle.kept_promise.proofs.Actors.{serves_fits, serves_read, serves_read_plain}
-use Rattle.kept_promise.proofs.Replies.{reply_taken}
+use Rattle.kept_promise.proofs.Replies.{reply_taken, reply_silent}
 use Rattle.kept_promise.proofs.Hangs.{left_there}
-use Rattle.kept_promise.proofs.CallsKeep.{IsByCommit, is_of_files, Waits, got_keeps, makes_call, walk_made}
+use Rattle.kept_promise.proofs.CallsAlike.{call_read}
+use Rattle.kept_promise.proofs.CallsKeep.{IsByCommit, is_of_files, Waits, got_keeps, makes_call, walk_made, MayName, called_tree}
 use Rattle.kept_promise.proofs.PathNames.{IsWalkSmall, makes_at, is_making, is_building, is_going, making_is, building_makes, going_makes}
 use Rattle.kept_promise.proofs.Makings.{made_by, step_by, MadeSo, refuses, enters, made_walk}
-use Rattle.kept_promise.proofs.Departures.{ComesSo, refused, done_now, waits, comes_so, SettlesSo, refused_late, goes, settles_so}
+use Rattle.kept_promise.proofs.Departures.{ComesSo, refused, done_now, waits, comes_so, SettlesSo, refused_late, goes, settles_so, asks_itself}
 use Rattle.kept_promise.proofs.ServesFiles.{got_making, making_got}
 use Rattle.kept_promise.proofs.GoingSteps.{coming, got_answered, got_waits}
 use Rattle.kept_promise.proofs.TakenOut.{made_waiting, WhatSettles, settles_one, settles_none, what_settles}
@@ -59,6 +63,9 @@ use Rattle.kept_promise.proofs.SentUp.{WasCalled, UpsSent, call_asked}
 use Rattle.kept_promise.proofs.Logs.{IsSilent}
 use Rattle.kept_promise.proofs.Saved.{AllSaved, carried_saved}
 use Rattle.kept_promise.proofs.Happens.{what_happens}
+use Rattle.kept_promise.proofs.EntriesGrow.{IsOwned}
+use Rattle.kept_promise.proofs.OwnersKept.{owned_before}
+use Rattle.kept_promise.proofs.AnyCall.{any_waits}
 
 -- ---- another content changes no name
 
@@ -129,6 +136,10 @@ asked_is a b e = cc
 
 -- ---- events that leave the server's tree, and what waits there
 
+hung_still : (k : Core) (n : ℕ) (b : Bool) → IsStill k.server (Rattle.server_core.specs.Step.hangs_if k.server b n).0
+hung_still k n true = record { names = λ dir. refl; waiting = λ i c at. (left_there n k.server.waiting i c at).0 }
+hung_still k n false = still_same k.server k.server refl
+
 others_still : (k : Core) (e : Event) → ((n now : ℕ) (bytes : List ℕ) → e ≡ Serves n now bytes → ⊥) → ((now : ℕ) → e ≡ Settles now → ⊥) → IsStill k.server (happens k e).core.server
 others_still k e unserved unsettled = what_happens k e (λ t. IsStill k.server t.core.server) (record {
   nothing = same;
@@ -136,29 +147,31 @@ others_still k e unserved unsettled = what_happens k e (λ t. IsStill k.server t
   joins = λ c seat is. record { names = λ dir. refl; waiting = those_same k.server.waiting k.server.waiting refl };
   refuses = λ c seat is. same;
   does = λ c now d seat is. same;
-  takes = λ n now bytes x m is at read. absurd (unserved n now bytes is);
+  takes = λ n now bytes x m is at unhung read. absurd (unserved n now bytes is);
   hears = λ n now bytes owner seat is. same;
   settles = λ now is. absurd (unsettled now is);
   cuts = λ c seat is. same;
-  hangs = λ n x is at. gone n (stands k.server n);
+  hangs = λ n x is at unhung. gone n (stands k.server n);
+  closes = λ n now bytes x is at unhung. absurd (unserved n now bytes is);
+  raw_joins = λ is. record { names = λ dir. refl; waiting = those_same k.server.waiting k.server.waiting refl };
+  raw_refuses = λ is. same;
 })
   where
     same : IsStill k.server k.server
     same = still_same k.server k.server refl
 
     gone : (n : ℕ) (b : Bool) → IsStill k.server (Rattle.server_core.specs.Step.hangs_if k.server b n).0
-    gone n true = record { names = λ dir. refl; waiting = λ i c at. (left_there n k.server.waiting i c at).0 }
-    gone n false = same
+    gone n b = hung_still k n b
 
 -- ---- what is carried
 
--- each change that waits and asks for something by a name came by a call that was taken; and so did each change of names that was made
+-- each change that waits for a client and asks for something by a name came by a call that was taken; and so did each change of names that was made, but those of sessions that are no client's
 abbrev TakesAsked : List Moment → FileChange → Asked → Type 0
 TakesAsked past c a = (t : TakesNaming past c.session c.xid) × (t.call ≡ next_call (walk_for a))
 
 pub record AreNamed (past : List Moment) (k : Core) : Type 0 where
-  pub waiting : (i : ℕ) (c : FileChange) (a : Asked) → slice_get k.server.waiting i ≡ Some c → c.what ≡ wanted.Asked a → TakesAsked past c a
-  pub each : (m : Moment) → Contains past m → KeepsNames m ⊎ MakesNaming past m
+  pub waiting : (i : ℕ) (c : FileChange) (a : Asked) → slice_get k.server.waiting i ≡ Some c → c.what ≡ wanted.Asked a → IsOwned k c.session → TakesAsked past c a
+  pub each : (m : Moment) → Contains past m → KeepsNames m ⊎ (MakesNaming past m ⊎ ChangesRaw m)
 
 abbrev takes_later : (past : List Moment) (m : Moment) (session xid : ℕ) → TakesNaming past session xid → TakesNaming (past ++ m ∷ []) session xid
 takes_later past m session xid t = record {
@@ -178,23 +191,23 @@ makes_later past m z n = record { session = n.session; xid = n.xid; takes = take
 
 -- what an event makes of it
 pub record NamesAfter (past : List Moment) (k : Core) (e : Event) : Type 0 where
-  pub now : KeepsNames (moment k e) ⊎ MakesNaming (past ++ moment k e ∷ []) (moment k e)
-  pub waiting : (i : ℕ) (c : FileChange) (a : Asked) → slice_get (happens k e).core.server.waiting i ≡ Some c → c.what ≡ wanted.Asked a → ((j : ℕ) × (slice_get k.server.waiting j ≡ Some c)) ⊎ TakesAsked (past ++ moment k e ∷ []) c a
+  pub now : KeepsNames (moment k e) ⊎ (MakesNaming (past ++ moment k e ∷ []) (moment k e) ⊎ ChangesRaw (moment k e))
+  pub waiting : (i : ℕ) (c : FileChange) (a : Asked) → slice_get (happens k e).core.server.waiting i ≡ Some c → c.what ≡ wanted.Asked a → IsOwned (happens k e).core c.session → ((j : ℕ) × (slice_get k.server.waiting j ≡ Some c)) ⊎ TakesAsked (past ++ moment k e ∷ []) c a
 
-named_after : (past : List Moment) (k : Core) (e : Event) → NamesAfter past k e → AreNamed past k → AreNamed (past ++ moment k e ∷ []) (happens k e).core
-named_after past k e new h = record {
-  waiting = λ i c a at asks_. elim (new.waiting i c a at asks_) [
-    | inl old ↦ (let was = h.waiting old.0 c a old.1 asks_ in (takes_later past (moment k e) c.session c.xid was.0, was.1))
+named_after : (past : List Moment) (k : Core) (e : Event) → ((j : ℕ) (c : FileChange) → slice_get k.server.waiting j ≡ Some c → (x : Session) × (numbered k.sessions c.session ≡ Some x) × (x.hung ≡ false)) → NamesAfter past k e → AreNamed past k → AreNamed (past ++ moment k e ∷ []) (happens k e).core
+named_after past k e home new h = record {
+  waiting = λ i c a at asks_ owned. elim (new.waiting i c a at asks_ owned) [
+    | inl old ↦ (let x = home old.0 c old.1 in let was = h.waiting old.0 c a old.1 asks_ (x.0, x.1, owned_before k e c.session x.0 owned.0 x.1 owned.1 owned.2) in (takes_later past (moment k e) c.session c.xid was.0, was.1))
     | inr takes ↦ takes
   ];
   each = λ z there. elim (Contains-push_cases past (moment k e) z there) [
-    | inl old ↦ elim (h.each z old) [ inl keeps ↦ inl keeps | inr makes ↦ inr (makes_later past (moment k e) z makes) ]
-    | inr is ↦ subst (λ (y : Moment). KeepsNames y ⊎ MakesNaming (past ++ moment k e ∷ []) y) is new.now
+    | inl old ↦ elim (h.each z old) [ inl keeps ↦ inl keeps | inr makes ↦ inr (elim makes [ inl own ↦ inl (makes_later past (moment k e) z own) | inr raw ↦ inr raw ]) ]
+    | inr is ↦ subst (λ (y : Moment). KeepsNames y ⊎ (MakesNaming (past ++ moment k e ∷ []) y ⊎ ChangesRaw y)) is new.now
   ];
 }
 
 after_still : (past : List Moment) (k : Core) (e : Event) → IsStill k.server (happens k e).core.server → NamesAfter past k e
-after_still past k e still = record { now = inl still.names; waiting = λ i c a at asks_. inl (still.waiting i c at) }
+after_still past k e still = record { now = inl still.names; waiting = λ i c a at asks_ owned. inl (still.waiting i c at) }
 
 -- ---- what is made, and what is answered
 
@@ -264,9 +277,9 @@ settled_turned k now c cs a so = by so
         subst (λ (p : Tree × Finished). Turned k c.session c.xid (next_call (walk_for a)) (server.held cs) (asked_step k now c cs p)) (sym is) (said_done k c.session c.xid (walk_for a) (server.held cs) r (asked_step k now c cs (after, d)) done (asked_makes a) step refl leads)
 
 -- so what is said of the step
-now_by : (past : List Moment) (m : Moment) (n xid : ℕ) (takes : TakesNaming past n xid) → ComesTo m n xid (step_of takes.taken) → Turned m.before n xid takes.call (held_at m) (happens m.before m.event) → KeepsNames m ⊎ MakesNaming past m
+now_by : (past : List Moment) (m : Moment) (n xid : ℕ) (takes : TakesNaming past n xid) → ComesTo m n xid (step_of takes.taken) → Turned m.before n xid takes.call (held_at m) (happens m.before m.event) → KeepsNames m ⊎ (MakesNaming past m ⊎ ChangesRaw m)
 now_by past m n xid takes comes (inl keeps) = inl keeps
-now_by past m n xid takes comes (inr answered) = inr (record { session = n; xid = xid; takes = takes; comes = comes; makes = answered.3; answer = answered.0; told = answered.1; done = answered.2 })
+now_by past m n xid takes comes (inr answered) = inr (inl (record { session = n; xid = xid; takes = takes; comes = comes; makes = answered.3; answer = answered.0; told = answered.1; done = answered.2 }))
 
 -- ---- a call is taken
 
@@ -285,8 +298,11 @@ names_serves fits all past opening k qs mid n now bytes kept f sent = by (makes_
     read_here : parse_of (server_waits k n) bytes ≡ Ok (ask_message f.1)
     read_here = serves_read fits (book_at opening k all) k qs n now bytes mid kept f
 
+    standing_is : x.0.hung ≡ false
+    standing_is = unhung_up kept n x.0 f.0 x.1 f.3 f.1 f.2 f.4
+
     server_is : (happens k (Serves n now bytes)).core.server ≡ (server_step k.server (event.Got n (ask_message f.1) now)).0
-    server_is = ap (λ (o : Option Session). (serves k n now bytes o).core.server) x.1 ∙ ap (λ (r : Result Message WireFault). (serves_if k n now x.0 r).core.server) read_here
+    server_is = ap (λ (o : Option Session). (serves k n now bytes o).core.server) x.1 ∙ ap (λ (b : Bool). (serves_unless k n now bytes x.0 b).core.server) standing_is ∙ ap (λ (r : Result Message WireFault). (serves_if k n now x.0 r).core.server) read_here
 
     was : WasCalled past k.steps n f.1
     was = (subst (AllAsks (WasCalled past k.steps n)) f.4 (sent n f.0 f.3)).0
@@ -298,7 +314,7 @@ names_serves fits all past opening k qs mid n now bytes kept f sent = by (makes_
         let came : Waits k.server.waiting n (IsByCommit (ask_message f.1)) (server_step k.server (event.Got n (ask_message f.1) now)).0.waiting = got_keeps (λ (z : server.State). Waits k.server.waiting n (IsByCommit (ask_message f.1)) z.waiting) k.server n (ask_message f.1) now of (λ temps waiting index leasing w. w) in
         record {
           now = inl (λ dir. ap (λ (s : server.State). names_of s.tree dir) server_is ∙ ap (λ (t : Tree). names_of t dir) tree);
-          waiting = λ i c a there asks_. inl (elim came [
+          waiting = λ i c a there asks_ owned. inl (elim came [
             | inl same ↦ (i, ap (λ (l : List FileChange). slice_get l i) (sym same) ∙ ap (λ (s : server.State). slice_get s.waiting i) (sym server_is) ∙ there)
             | inr one ↦ elim (of_appended k.server.waiting one.0 i c (ap (λ (l : List FileChange). slice_get l i) (sym one.2) ∙ ap (λ (s : server.State). slice_get s.waiting i) (sym server_is) ∙ there)) [
               | inr old ↦ (i, old)
@@ -310,7 +326,7 @@ names_serves fits all past opening k qs mid n now bytes kept f sent = by (makes_
     some_ : makes_call f.1.call ≡ true → NamesAfter past k (Serves n now bytes)
     some_ makes = record {
       now = now_by past2 (moment k (Serves n now bytes)) n f.1.xid takes (inl refl) both.0;
-      waiting = λ i c a there asks_. elim both.1 [
+      waiting = λ i c a there asks_ owned. elim both.1 [
         | inl same ↦ inl (i, ap (λ (l : List FileChange). slice_get l i) (sym same) ∙ there)
         | inr new ↦ elim (of_appended k.server.waiting (coming n f.1.xid new.0) i c (ap (λ (l : List FileChange). slice_get l i) (sym new.1) ∙ there)) [
           | inr old ↦ inl (i, old)
@@ -329,20 +345,13 @@ names_serves fits all past opening k qs mid n now bytes kept f sent = by (makes_
         fit = subst (CallFits f.1.lbfs f.1.xid) w.1 (serves_fits (book_at opening k all) k qs n now bytes mid kept f)
 
         h : IsSession (book_at opening k all) k.seats k.server n x.0 f.0
-        h = kept.sessions n x.0 f.0 x.1 f.3
-
-        unhung : (b : Bool) → x.0.hung ≡ b → x.0.hung ≡ false
-        unhung false e = e
-        unhung true e = absurd (no_ups (sym (h.lost e) ∙ f.4))
-          where
-            no_ups : {a : Ask} {us : List Ask} → ◌≡◌ {A = List Ask} [] (a ∷ us) → ⊥
-            no_ups e = absurd cc
+        h = kept.sessions n x.0 f.0 x.1 f.3 (owned_up kept n x.0 f.0 x.1 f.3 f.1 f.2 f.4)
 
         standing : stands k.server n ≡ true
-        standing = h.stands_is ∙ ap not (unhung x.0.hung refl)
+        standing = h.stands_is ∙ ap not standing_is
 
         step_is : happens k (Serves n now bytes) ≡ server_got k n now x.0 (message.Call f.1.xid (body.Nfs (next_call w.0)))
-        step_is = ap (λ (o : Option Session). serves k n now bytes o) x.1 ∙ ap (λ (r : Result Message WireFault). serves_if k n now x.0 r) (read_here ∙ ap (λ (m : Message). Ok m) is)
+        step_is = ap (λ (o : Option Session). serves k n now bytes o) x.1 ∙ ap (serves_unless k n now bytes x.0) standing_is ∙ ap (λ (r : Result Message WireFault). serves_if k n now x.0 r) (read_here ∙ ap (λ (m : Message). Ok m) is)
 
         changes : ChangesNames (next_call w.0)
         changes = changes_made w.0.dir w.0.left w.0.goal w.2
@@ -378,16 +387,12 @@ names_serves fits all past opening k qs mid n now bytes kept f sent = by (makes_
 
 -- ---- what waits is settled
 
-asks_itself : (a : Asked) → AsksFor (walk_for a) a
-asks_itself (asked.Remove r) = (refl, refl, refl)
-asks_itself (asked.Rename r) = (refl, refl, refl)
-
 names_settles : (past : List Moment) (book : Book) (k : Core) (qs : List Queue) (now : ℕ) → IsKept book k qs → AreNamed past k → NamesAfter past k (Settles now)
 names_settles past book k qs now kept h = by (what_settles book k qs now kept)
   where
     by : WhatSettles k now → NamesAfter past k (Settles now)
     by (settles_none none is) = after_still past k (Settles now) (still_same k.server (happens k (Settles now)).core.server (ap (λ (t : CoreStep). t.core.server) is))
-    by (settles_one c cs out) = record { now = first c.what refl; waiting = λ i d a there asks_. inl (out.out.others i d (ap (λ (l : List FileChange). slice_get l i) (sym left) ∙ there)) }
+    by (settles_one c cs out) = record { now = first c.what refl (raw_or_owned home.0); waiting = λ i d a there asks_ owned. inl (out.out.others i d (ap (λ (l : List FileChange). slice_get l i) (sym left) ∙ there)) }
       where
         before : server.State
         before = at (record k.server { waiting = cs }) now
@@ -398,15 +403,19 @@ names_settles past book k qs now kept h = by (what_settles book k qs now kept)
         left : (happens k (Settles now)).core.server.waiting ≡ cs
         left = ap (λ (s : server.State). s.waiting) server_is ∙ made_waiting before c c.what
 
-        first : (w : Wanted) → c.what ≡ w → KeepsNames (moment k (Settles now)) ⊎ MakesNaming (past ++ moment k (Settles now) ∷ []) (moment k (Settles now))
-        first (wanted.Content content) what = inl (λ dir.
+        home : (x : Session) × (numbered k.sessions c.session ≡ Some x) × (x.hung ≡ false)
+        home = kept.home out.out.place c out.out.there
+
+        first : (w : Wanted) → c.what ≡ w → (is_raw home.0 ≡ true) ⊎ (is_raw home.0 ≡ false) → KeepsNames (moment k (Settles now)) ⊎ (MakesNaming (past ++ moment k (Settles now) ∷ []) (moment k (Settles now)) ⊎ ChangesRaw (moment k (Settles now)))
+        first (wanted.Asked a) what (inl raw) = inr (inr (c.session, home.0, home.1, raw, inr (now, c, a, refl, out.ready, refl, what)))
+        first (wanted.Content content) what whose = inl (λ dir.
             ap (λ (s : server.State). names_of s.tree dir) server_is
             ∙ ap (λ (w : Wanted). names_of (makes_change (at (record k.server { waiting = cs }) now) c w).0.tree dir) what
             ∙ commits_names k.server.tree (server.held cs) c.file content dir)
-        first (wanted.Asked a) what =
+        first (wanted.Asked a) what (inr owned) =
             let wants = subst (IsWanted c.file) what (kept.server.wants out.out.place c out.out.there) in
             let so = settles_so k.server.tree (server.held cs) (walk_for a) a kept.server.bounded wants.2 (asks_itself a) wants.1 (λ n d. no_directory book k.server (file_of a) n kept.server (subst (λ (f : ℕ). WasThere book f) wants.0 (kept.server.targets out.out.place c out.out.there)) d) in
-            let was = h.waiting out.out.place c a out.out.there what in
+            let was = h.waiting out.out.place c a out.out.there what (home.0, home.1, owned) in
             let room : server.held cs ≡ server.held (others_waiting (Settles now) k.server) = sym (ap server.held out.others) in
             now_by (past ++ moment k (Settles now) ∷ []) (moment k (Settles now)) c.session c.xid
             (takes_later past (moment k (Settles now)) c.session c.xid was.0)
@@ -414,6 +423,87 @@ names_settles past book k qs now kept h = by (what_settles book k qs now kept)
             (subst (λ (call : Nfs). Turned k c.session c.xid call (held_at (moment k (Settles now))) (happens k (Settles now))) (sym was.1)
             (subst (λ (held : Reservation). Turned k c.session c.xid (next_call (walk_for a)) held (happens k (Settles now))) room
             (subst (Turned k c.session c.xid (next_call (walk_for a)) (server.held cs)) (sym (asked_settles k now c cs a out what)) (settled_turned k now c cs a so))))
+
+-- ---- a session that is no client's
+
+-- a step leaves this tree: the one before, or it is by a call that may change names
+abbrev StaysOrNames : Core → (n now : ℕ) → List ℕ → Tree → Type 0
+StaysOrNames k n now bytes t = (t ≡ k.server.tree) ⊎ IsOwnNaming (moment k (Serves n now bytes)) n
+
+-- by any of its messages but such a call names stay
+raw_names : (k : Core) (n now : ℕ) (bytes : List ℕ) (x : Session) → numbered k.sessions n ≡ Some x → is_raw x ≡ true → KeepsNames (moment k (Serves n now bytes)) ⊎ ChangesRaw (moment k (Serves n now bytes))
+raw_names k n now bytes x on raw = elim (by x.hung) [
+  | inl same ↦ inl (λ dir. ap (λ (o : Option Session). names_of (serves k n now bytes o).core.server.tree dir) on ∙ ap (λ (t : Tree). names_of t dir) same)
+  | inr own ↦ inr (n, x, on, raw, own)
+]
+  where
+    lost : (b : Bool) → StaysOrNames k n now bytes (Rattle.server_core.specs.Step.hangs_if k.server b n).0.tree
+    lost true = inl refl
+    lost false = inl refl
+
+    none : (e : WireFault) → StaysOrNames k n now bytes (serves_none k n x e).core.server.tree
+    none (fault.UnknownXid xid) = inl refl
+    none (fault.NotRpc place) = lost (stands k.server n)
+    none (fault.Garbage place) = lost (stands k.server n)
+
+    named : (b : Body) → MayName b → (xid : ℕ) → parse_of server_waiting bytes ≡ Ok (message.Call xid b) → IsOwnNaming (moment k (Serves n now bytes)) n
+    named (body.Nfs call) may xid read = inl (now, xid, bytes, call, refl, read, may)
+    named (body.Lb call) may xid read = absurd may
+    named (body.Back call) may xid read = absurd may
+
+    got : (m : Message) → parse_of (server_waits k n) bytes ≡ Ok m → (b : Bool) → StaysOrNames k n now bytes (Rattle.server_core.specs.Step.got_if k.server b n m now).0.tree
+    got (message.Call xid b) read true = elim (called_tree (at k.server now) n xid b) [ inl same ↦ inl same | inr may ↦ inr (named b may xid (call_read k n bytes xid b read)) ]
+    got (message.Unfit xid why) read true = inl refl
+    got (message.Answer xid b) read true = inl refl
+    got (message.Refuse xid why) read true = inl refl
+    got m read false = inl refl
+
+    taken : (r : Result Message WireFault) → parse_of (server_waits k n) bytes ≡ r → StaysOrNames k n now bytes (serves_if k n now x r).core.server.tree
+    taken (Ok m) read = got m read (stands k.server n)
+    taken (Err e) read = none e
+
+    by : (b : Bool) → StaysOrNames k n now bytes (serves_unless k n now bytes x b).core.server.tree
+    by true = inl refl
+    by false = taken (parse_of (server_waits k n) bytes) refl
+
+names_raw : (past : List Moment) (k : Core) (n now : ℕ) (bytes : List ℕ) (x : Session) → numbered k.sessions n ≡ Some x → is_raw x ≡ true → NamesAfter past k (Serves n now bytes)
+names_raw past k n now bytes x at raw = record {
+  now = elim (raw_names k n now bytes x at raw) [ inl same ↦ inl same | inr own ↦ inr (inr own) ];
+  waiting = λ i c a there asks_ owned. inl (of_those i c there (λ own. true_and_false (is_raw x) raw (owned_before k (Serves n now bytes) n x owned.0 at (ap (numbered (happens k (Serves n now bytes)).core.sessions) (sym own) ∙ owned.1) owned.2)));
+}
+  where
+    -- a change more is that session's
+    came : (o : Option Session) → numbered k.sessions n ≡ o → Waits k.server.waiting n (λ c. Unit {0}) (serves k n now bytes o).core.server.waiting ⊎ ((i : ℕ) (c : FileChange) → slice_get (serves k n now bytes o).core.server.waiting i ≡ Some c → (j : ℕ) × (slice_get k.server.waiting j ≡ Some c))
+    came None e = inl (inl refl)
+    came (Some y) e = by y.hung
+      where
+        lost : (b : Bool) (i : ℕ) (c : FileChange) → slice_get (Rattle.server_core.specs.Step.hangs_if k.server b n).0.waiting i ≡ Some c → (j : ℕ) × (slice_get k.server.waiting j ≡ Some c)
+        lost b i c there = (hung_still k n b).waiting i c there
+
+        none : (e : WireFault) → Waits k.server.waiting n (λ c. Unit {0}) (serves_none k n y e).core.server.waiting ⊎ ((i : ℕ) (c : FileChange) → slice_get (serves_none k n y e).core.server.waiting i ≡ Some c → (j : ℕ) × (slice_get k.server.waiting j ≡ Some c))
+        none (fault.UnknownXid xid) = inl (inl refl)
+        none (fault.NotRpc place) = inr (lost (stands k.server n))
+        none (fault.Garbage place) = inr (lost (stands k.server n))
+
+        read : (r : Result Message WireFault) → Waits k.server.waiting n (λ c. Unit {0}) (serves_if k n now y r).core.server.waiting ⊎ ((i : ℕ) (c : FileChange) → slice_get (serves_if k n now y r).core.server.waiting i ≡ Some c → (j : ℕ) × (slice_get k.server.waiting j ≡ Some c))
+        read (Ok m) = inl (any_waits k.server n m now (stands k.server n))
+        read (Err e) = none e
+
+        by : (b : Bool) → Waits k.server.waiting n (λ c. Unit {0}) (serves_unless k n now bytes y b).core.server.waiting ⊎ ((i : ℕ) (c : FileChange) → slice_get (serves_unless k n now bytes y b).core.server.waiting i ≡ Some c → (j : ℕ) × (slice_get k.server.waiting j ≡ Some c))
+        by true = inl (inl refl)
+        by false = read (parse_of (server_waits k n) bytes)
+
+    of_those : (i : ℕ) (c : FileChange) → slice_get (happens k (Serves n now bytes)).core.server.waiting i ≡ Some c → (c.session ≡ n → ⊥) → (j : ℕ) × (slice_get k.server.waiting j ≡ Some c)
+    of_those i c there other = elim (came (numbered k.sessions n) refl) [
+      | inr old ↦ old i c there
+      | inl more_ ↦ elim more_ [
+        | inl same ↦ (i, ap (λ (l : List FileChange). slice_get l i) (sym same) ∙ there)
+        | inr more ↦ elim (of_appended k.server.waiting more.0 i c (ap (λ (l : List FileChange). slice_get l i) (sym more.2) ∙ there)) [
+          | inl last ↦ absurd (other (ap (λ (z : FileChange). z.session) last.1 ∙ more.1))
+          | inr old ↦ (i, old)
+        ]
+      ]
+    ]
 
 -- ---- any event
 
@@ -423,27 +513,63 @@ names_event fits all past rest opening k qs (Serves n now bytes) mid after s sen
     -- by an answer to a RECALL nothing waits, and no name moves
     by : Finds k qs (Serves n now bytes) mid → NamesAfter past k (Serves n now bytes)
     by (inl f) = names_serves fits all past opening k qs mid n now bytes s.kept f sent
-    by (inr f) = after_still past k (Serves n now bytes) (subst (λ (t : CoreStep). IsStill k.server t.core.server) (sym (reply_taken fits k qs n now bytes mid f).1) (record { names = λ dir. refl; waiting = those_same k.server.waiting k.server.waiting refl }))
+    by (inr (inl f)) = after_still past k (Serves n now bytes) (elim (reply_taken fits k qs n now bytes mid f) [
+      | inl taken ↦ subst (λ (t : CoreStep). IsStill k.server t.core.server) (sym taken.1) (record { names = λ dir. refl; waiting = those_same k.server.waiting k.server.waiting refl })
+      | inr lost ↦ subst (λ (t : CoreStep). IsStill k.server t.core.server) (sym lost) (hung_still k n (stands k.server n))
+    ])
+    by (inr (inr f)) = names_raw past k n now bytes f.0 f.1 f.2
 names_event fits all past rest opening k qs (Settles now) mid after s sent h = names_settles past (book_at opening k all) k qs now s.kept h
 names_event fits all past rest opening k qs e mid after s sent h = after_still past k e (others_still k e (λ n now bytes z. absurd cc) (λ now z. absurd cc))
+
+-- ---- no session of a client is closed
+
+-- what comes up one is the first call on its way, or an answer to a RECALL: it is read, or isn't waited for any more
+closes_raw : FitLaws → (all past rest : List Moment) (opening : List Opening) (k : Core) (qs : List Queue) (e : Event) (mid after : List Queue) → Step all past rest opening k qs e mid after → ClosesRaw (moment k e)
+closes_raw fits all past rest opening k qs e mid after s n now bytes x is on closed = by (subst (λ (z : Event). Finds k qs z mid) is s.finds)
+  where
+    read_fails : {A : Type 0} (m : Message) (f : WireFault) → ◌≡◌ {A = Result Message WireFault} (Ok m) (Err f) → A
+    read_fails m f z = absurd cc
+
+    nothing_lost : {A : Type 0} (z : ℕ) → ◌≡◌ {A = Loss} Nothing (Up_of z) → A
+    nothing_lost z e = absurd cc
+
+    gone : (f : WireFault) → EndsSession f → (serves_none k n x f).loss ≡ Up_of n
+    gone (fault.UnknownXid xid) ends = absurd ends
+    gone (fault.NotRpc place) ends = refl
+    gone (fault.Garbage place) ends = refl
+
+    by : Finds k qs (Serves n now bytes) mid → is_raw x ≡ true
+    by (inl f) = read_fails (ask_message f.1) closed.0 (sym (serves_read fits (book_at opening k all) k qs n now bytes mid s.kept f) ∙ closed.1)
+    by (inr (inl f)) =
+        let unhung : x.hung ≡ false = ap (λ (z : Session). z.hung) (some_is x f.session (sym on ∙ f.at)) ∙ f.unhung in
+        let silent = reply_silent fits k n now f.xid x on unhung f.fits s.kept.server.leases.1 in
+        let lost : (happens k (Serves n now bytes)).loss ≡ Up_of n =
+        ap (λ (o : Option Session). (serves k n now bytes o).loss) on
+        ∙ ap (λ (b : Bool). (serves_unless k n now bytes x b).loss) unhung
+        ∙ ap (λ (r : Result Message WireFault). (serves_if k n now x r).loss) closed.1
+        ∙ gone closed.0 closed.2 in
+        nothing_lost n (sym silent.0 ∙ ap (λ (z : List ℕ). (happens k (Serves n now z)).loss) (sym f.bytes_is) ∙ lost)
+    by (inr (inr f)) = ap is_raw (some_is x f.0 (sym on ∙ f.1)) ∙ f.2
 
 -- beside what is saved, by which each call that is taken had been sent
 pub record AllNamed (all past : List Moment) (opening : List Opening) (k : Core) (qs : List Queue) : Type 0 where
   pub saved : AllSaved all past opening k qs
   pub named : AreNamed past k
+  pub closes : (m : Moment) → Contains past m → ClosesRaw m
 
 pub carried_named : FitLaws → Carried AllNamed
 carried_named fits = record {
-  first = λ all opening tree count kept. record { saved = (carried_saved fits).first all opening tree count kept; named = record { waiting = λ i c a there asks_. nothing_there c there; each = λ m there. (let lt = there.1 in absurd (omega (arith, lt))) } };
-  steps = λ all past rest opening k qs e mid after s h. record { saved = (carried_saved fits).steps all past rest opening k qs e mid after s h.saved; named = named_after past k e (names_event fits all past rest opening k qs e mid after s h.saved.called h.named) h.named };
-  adjusts = λ all past opening k qs index seats same h. record { saved = (carried_saved fits).adjusts all past opening k qs index seats same h.saved; named = record { waiting = h.named.waiting; each = h.named.each } };
+  first = λ all opening tree count kept. record { saved = (carried_saved fits).first all opening tree count kept; named = record { waiting = λ i c a there asks_ owned. nothing_there c there; each = λ m there. (let lt = there.1 in absurd (omega (arith, lt))) }; closes = λ m there. (let lt = there.1 in absurd (omega (arith, lt))) };
+  steps = λ all past rest opening k qs e mid after s h. record { saved = (carried_saved fits).steps all past rest opening k qs e mid after s h.saved; named = named_after past k e s.kept.home (names_event fits all past rest opening k qs e mid after s h.saved.called h.named) h.named; closes = λ m there. elim (Contains-push_cases past (moment k e) m there) [ inl old ↦ h.closes m old | inr new ↦ subst ClosesRaw new (closes_raw fits all past rest opening k qs e mid after s) ] };
+  adjusts = λ all past opening k qs index seats same h. record { saved = (carried_saved fits).adjusts all past opening k qs index seats same h.saved; named = record { waiting = h.named.waiting; each = h.named.each }; closes = h.closes };
 }
 
 -- ---- what it makes of the promise
 
-pub names_change : (book : Book) (m : Moment) → KeepsNames m ⊎ MakesNaming book.moments m → ((z : Moment) → Contains book.moments z → IsSilent z ⊎ ((k : ℕ) × (o : Op) × (slice_get book.ops k ≡ Some o) × (is_in o (step_of z) (client_of z.before z.event) ≡ true))) → NamesChangeBy book m
+pub names_change : (book : Book) (m : Moment) → KeepsNames m ⊎ (MakesNaming book.moments m ⊎ ChangesRaw m) → ((z : Moment) → Contains book.moments z → IsSilent z ⊎ ((k : ℕ) × (o : Op) × (slice_get book.ops k ≡ Some o) × (is_in o (step_of z) (client_of z.before z.event) ≡ true))) → NamesChangeBy book m
 names_change book m (inl keeps) owned = inl keeps
-names_change book m (inr n) owned = (let w = own (owned n.takes.sent.moment n.takes.sent.there) in inr (n, w.0, w.1, w.2, w.3))
+names_change book m (inr (inr raw)) owned = inr (inr raw)
+names_change book m (inr (inl n)) owned = (let w = own (owned n.takes.sent.moment n.takes.sent.there) in inr (inl (n, w.0, w.1, w.2, w.3)))
   where
     none_sent : (z : Message) → Contains [] z → ⊥
     none_sent z c = let lt = c.1 in absurd (omega (arith, lt))

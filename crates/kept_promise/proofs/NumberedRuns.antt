@@ -1,5 +1,5 @@
 -- A run carries that the calls of each session are numbered from 1 on, in the order in which they are sent.
-use Rattle.std.proofs.Common.{inl, inr, ◌≡◌, ℕ, zero, suc, ◌+◌, ◌-◌, ◌<◌, List, [], ◌∷◌, ◌++◌, length, Option, Some, None, Result, Ok, Bool, true, false, refl, sym, ap, ◌∙◌, subst, arith, append-nil, length-append, replicate}
+use Rattle.std.proofs.Common.{inl, inr, ◌≡◌, ℕ, zero, suc, ◌+◌, ◌-◌, ◌<◌, List, [], ◌∷◌, ◌++◌, length, Option, Some, None, Result, Ok, Bool, true, false, refl, sym, ap, ◌∙◌, subst, arith, append-nil, length-append, replicate, ◌≤◌}
 use Rattle.wire.specs.declared.message.Message.TheVariants as message
 use Rattle.client_state.specs.Noting.{at as at_clock}
 use Rattle.client_state.specs.State as client
@@ -145,7 +145,7 @@ same_of n past m silent = of_more n past m ∙ ap (λ l. numbers_of n past ++ l)
     by true = number_calls (happens m.before m.event).up ∙ ap numbers_among silent
     by false = refl
 
-quiet : (past : List Moment) (m : Moment) (seats after : List Seat) (made more : ℕ) → asked_in m ≡ [] → more ≡ made
+quiet : (past : List Moment) (m : Moment) (seats after : List Seat) (made more : ℕ) → asked_in m ≡ [] → made ≤ more
     → ((i n : ℕ) (seat : Seat) → numbered after i ≡ Some seat → seat.session ≡ Some n → (j : ℕ) × (old : Seat) × (numbered seats j ≡ Some old) × (old.session ≡ Some n) × (seat.client.next_xid ≡ old.client.next_xid))
     → AreNumbered past seats made → AreNumbered (past ++ m ∷ []) after more
 quiet past m seats after made more silent count was h = record {
@@ -246,7 +246,7 @@ numbers_join past k c seat made here h = record {
 
 -- a client whose connection is lost has sent what it had
 numbers_lost : (past : List Moment) (k : Core) (c : ℕ) (seat : Seat) → numbered k.seats c ≡ Some seat → At past k → At (past ++ moment k (Cuts c) ∷ []) (cuts_if k c seat true).core
-numbers_lost past k c seat here h = quiet past (moment k (Cuts c)) k.seats _ (length k.sessions) _ (cuts_silent k c).2 (cut_count k.sessions seat.session (session_of k.sessions seat.session)) (was _) h
+numbers_lost past k c seat here h = quiet past (moment k (Cuts c)) k.seats _ (length k.sessions) _ (cuts_silent k c).2 (let e = cut_count k.sessions seat.session (session_of k.sessions seat.session) in omega (arith, e)) (was _) h
   where
     gone : (p : Option ℕ) → Seat
     gone p = record seat { client = record seat.client { linked = false; task = None; forgotten = [] }; place = p }

@@ -6,8 +6,9 @@ use Rattle.server_core.specs.declared.event.Sent.{Sent}
 use Rattle.server_rules.specs.declared.told.Told.{Told}
 use Rattle.server_rules.specs.declared.told.Told.TheVariants as told
 use Rattle.trace_ends.specs.Session.{new_session}
-use Rattle.trace_replay.specs.Chained.{Side, Up, Down, sent_on, sent_to, sent_by, is_shut, unless_shut, bytes_after, bytes_from, bytes_sent, Came}
-use Rattle.kept_promise.proofs.Common.{nat_tests, ◌==◌, fed, Unread, nothing_read, slice_get, parse_of, Message, WireFault, server_step, word_of, Core, Seat, Session, Event, Event.Joins, Event.Does, Event.Serves, Event.Hears, Event.Settles, Event.Cuts, Event.Hangs, CoreStep, Loss.Down_of, numbered, with_numbered, session_of, is_newest, joins, joins_as, does, serves, serves_if, hears, hears_at, hears_if, cuts, cuts_if, hangs, hangs_if, server_waits, happens, World, Wire, new_wire, bytes_of, unless, up_put, down_put, down_lost, up_lost, lost_by, happened, Moment}
+use Rattle.trace_replay.specs.Chained.{Side, Up, Down, sent_on, sent_to, sent_by, is_shut, unless_shut, bytes_after, bytes_from, AllSent, Came}
+use Rattle.wire.specs.declared.fault.WireFault.TheVariants as fault
+use Rattle.kept_promise.proofs.Common.{nat_tests, ◌==◌, fed, Unread, nothing_read, slice_get, parse_of, Message, WireFault, server_step, word_of, Core, Seat, Session, Event, Event.Joins, Event.Does, Event.Serves, Event.Hears, Event.Settles, Event.Cuts, Event.Hangs, CoreStep, Loss.Down_of, numbered, with_numbered, session_of, is_newest, joins, joins_as, does, serves, serves_if, hears, hears_at, hears_if, cuts, cuts_if, hangs, hangs_if, server_waits, happens, World, Wire, new_wire, bytes_of, unless, up_put, down_put, down_lost, up_lost, lost_by, happened, Moment, loses, serves_unless, Event.RawJoins, raw_session, raw_joins_as}
 use Rattle.kept_promise.proofs.Lists.{some_is, nothing_there, same_or_not, of_appended, count_more, within}
 use Rattle.kept_promise.proofs.Turns.{Around, around_with, also_numbered}
 use Rattle.kept_promise.proofs.Places.{at_place, becomes, there_is, none_is, own}
@@ -52,7 +53,7 @@ longer (x ∷ xs) ys zero le = omega arith
 longer (x ∷ xs) ys (suc c) le = let h = longer xs ys c (omega (arith, le)) in omega (arith, h)
 
 -- more is sent
-way_next : (lost : Bool) (queue : List ℕ) (end : Unread) (came : ℕ) (sent more : List ℕ) → (lost ≡ true → (queue ≡ []) × (end ≡ nothing_read)) → (lost ≡ false → IsWay false queue end came sent) → IsWay lost (unless lost queue more) end came (unless_shut lost (sent ++ more))
+pub way_next : (lost : Bool) (queue : List ℕ) (end : Unread) (came : ℕ) (sent more : List ℕ) → (lost ≡ true → (queue ≡ []) × (end ≡ nothing_read)) → (lost ≡ false → IsWay false queue end came sent) → IsWay lost (unless lost queue more) end came (unless_shut lost (sent ++ more))
 way_next true queue end came sent more shut open_ = (let h = shut refl in (h.0, h.1, refl))
 way_next false queue end came sent more shut open_ =
     let h = open_ refl in
@@ -157,7 +158,7 @@ WayLeft side x y q r = ((is_shut side (Some y) ≡ is_shut side (Some x)) × (qu
 
 -- a session is new, or was there
 abbrev Was : List Session → List Wire → ℕ → (y : Session) → (r : Wire) → Type 0
-Was sessions ws n y r = ((numbered sessions n ≡ None) × (y.hung ≡ false) × (y.cut ≡ false) × (r ≡ new_wire)) ⊎ ((x : Session) × (q : Wire) × (numbered sessions n ≡ Some x) × (numbered ws n ≡ Some q) × ((side : Side) → WayLeft side x y q r))
+Was sessions ws n y r = ((numbered sessions n ≡ None) × (r ≡ new_wire)) ⊎ ((x : Session) × (q : Wire) × (numbered sessions n ≡ Some x) × (numbered ws n ≡ Some q) × ((side : Side) → WayLeft side x y q r))
 
 record Turned (sessions after : List Session) (ws lost : List Wire) : Type 0 where
   count : length lost ≡ length after
@@ -203,8 +204,8 @@ turned_still sessions after ws count h = record {
     by Up x y r hung cut = inl (hung, refl, refl)
     by Down x y r hung cut = inl (cut, refl, refl)
 
-turned_made : (sessions : List Session) (ws : List Wire) (x : Session) → length ws ≡ length sessions → x.hung ≡ false → x.cut ≡ false → Turned sessions (sessions ++ x ∷ []) ws (ws ++ new_wire ∷ [])
-turned_made sessions ws x count hung cut = record {
+turned_made : (sessions : List Session) (ws : List Wire) (x : Session) → length ws ≡ length sessions → Turned sessions (sessions ++ x ∷ []) ws (ws ++ new_wire ∷ [])
+turned_made sessions ws x count = record {
   count = count_more ws new_wire ∙ ap suc count ∙ sym (count_more sessions x);
   each = each;
   none = none;
@@ -219,7 +220,7 @@ turned_made sessions ws x count hung cut = record {
     by_side side y r = inl (refl, refl, refl)
 
     at_new : (k : ℕ) (y : Session) (r : Wire) → ((k ≡ length sessions) × (y ≡ x)) ⊎ (slice_get sessions k ≡ Some y) → ((k ≡ length ws) × (r ≡ new_wire)) ⊎ (slice_get ws k ≡ Some r) → Was sessions ws (suc k) y r
-    at_new k y r (inl a) (inl b) = inl (missing sessions k a.0, ap (λ (z : Session). z.hung) a.1 ∙ hung, ap (λ (z : Session). z.cut) a.1 ∙ cut, b.1)
+    at_new k y r (inl a) (inl b) = inl (missing sessions k a.0, b.1)
     at_new k y r (inl a) (inr b) = (let lt = within ws k r b in let e = a.0 in absurd (omega (arith, lt, e, count)))
     at_new k y r (inr a) (inl b) = (let lt = within sessions k y a in let e = b.0 in absurd (omega (arith, lt, e, count)))
     at_new k y r (inr a) (inr b) = inr (y, r, a, b, λ side. by_side side y r)
@@ -271,11 +272,23 @@ no_down q = record q { down = []; client_end = nothing_read }
 abbrev no_up : Wire → Wire
 no_up q = record q { up = []; server_end = nothing_read }
 
+-- the server loses a session, or closes it
+loses_turned : (k : Core) (ws : List Wire) (n : ℕ) (x : Session) → length ws ≡ length k.sessions → numbered k.sessions n ≡ Some x → TurnedBy k ws (loses k n x)
+loses_turned k ws n x count e = subst (Turned k.sessions (with_numbered k.sessions n (record x { hung = true })) ws) (sym (lost (numbered ws n) refl)) (turned_lost k.sessions ws n x (record x { hung = true }) no_up count e left)
+  where
+    left : (side : Side) (q : Wire) → WayLeft side x (record x { hung = true }) q (no_up q)
+    left Up q = inr (refl, refl, refl)
+    left Down q = inl (refl, refl, refl)
+
+    lost : (o : Option Wire) → numbered ws n ≡ o → up_lost ws n o ≡ becomes no_up ws n
+    lost None e = sym (none_is no_up ws n e)
+    lost (Some q) e = there_is no_up ws n q e
+
 event_turned : (k : Core) (ws : List Wire) (e : Event) → length ws ≡ length k.sessions → TurnedBy k ws (happens k e)
 event_turned k ws (Joins c) count = by (numbered k.seats c)
   where
     made : (seat : Seat) (s : server.State) (t : Told) → TurnedBy k ws (joins_as k c seat s t)
-    made seat s (told.Session n) = turned_made k.sessions ws (new_session c) count refl refl
+    made seat s (told.Session n) = turned_made k.sessions ws (new_session c) count
     made seat s _ = turned_still k.sessions k.sessions ws count (stand_same k.sessions)
 
     by : (o : Option Seat) → TurnedBy k ws (joins k c o)
@@ -298,11 +311,17 @@ event_turned k ws (Serves n now bytes) count = by (numbered k.sessions n) refl
   where
     got : (x : Session) → numbered k.sessions n ≡ Some x → (r : Result Message WireFault) → TurnedBy k ws (serves_if k n now x r)
     got x at (Ok m) = turned_still k.sessions _ ws count (stand_with k.sessions n x _ at refl refl)
-    got x at (Err e) = turned_still k.sessions k.sessions ws count (stand_same k.sessions)
+    got x at (Err (fault.UnknownXid xid)) = turned_still k.sessions k.sessions ws count (stand_same k.sessions)
+    got x at (Err (fault.NotRpc place)) = loses_turned k ws n x count at
+    got x at (Err (fault.Garbage place)) = loses_turned k ws n x count at
+
+    heard_by : (x : Session) → numbered k.sessions n ≡ Some x → (b : Bool) → TurnedBy k ws (serves_unless k n now bytes x b)
+    heard_by x at true = turned_still k.sessions k.sessions ws count (stand_same k.sessions)
+    heard_by x at false = got x at (parse_of (server_waits k n) bytes)
 
     by : (o : Option Session) → numbered k.sessions n ≡ o → TurnedBy k ws (serves k n now bytes o)
     by None at = turned_still k.sessions k.sessions ws count (stand_same k.sessions)
-    by (Some x) at = got x at (parse_of (server_waits k n) bytes)
+    by (Some x) at = heard_by x at x.hung
 event_turned k ws (Hears n now bytes) count = by (numbered k.sessions n)
   where
     heard : (owner : ℕ) (seat : Seat) (b : Bool) → TurnedBy k ws (hears_if k owner now seat bytes b)
@@ -345,33 +364,33 @@ event_turned k ws (Cuts c) count = by (numbered k.seats c)
     by (Some seat) = linked seat seat.client.linked
 event_turned k ws (Hangs n) count = by (numbered k.sessions n) refl
   where
-    left : (x : Session) (side : Side) (q : Wire) → WayLeft side x (record x { hung = true }) q (no_up q)
-    left x Up q = inr (refl, refl, refl)
-    left x Down q = inl (refl, refl, refl)
-
-    lost : (o : Option Wire) → numbered ws n ≡ o → up_lost ws n o ≡ becomes no_up ws n
-    lost None e = sym (none_is no_up ws n e)
-    lost (Some q) e = there_is no_up ws n q e
-
     at : (x : Session) → numbered k.sessions n ≡ Some x → (b : Bool) → TurnedBy k ws (hangs_if k n x b)
     at x e true = turned_still k.sessions k.sessions ws count (stand_same k.sessions)
-    at x e false = subst (Turned k.sessions (with_numbered k.sessions n (record x { hung = true })) ws) (sym (lost (numbered ws n) refl)) (turned_lost k.sessions ws n x (record x { hung = true }) no_up count e (left x))
+    at x e false = loses_turned k ws n x count e
 
     by : (o : Option Session) → numbered k.sessions n ≡ o → TurnedBy k ws (hangs k n o)
     by None e = turned_still k.sessions k.sessions ws count (stand_same k.sessions)
     by (Some x) e = at x e x.hung
+event_turned k ws RawJoins count = (let r = server_step k.server event.Connect in made r.0 r.1.told)
+  where
+    made : (s : server.State) (t : Told) → TurnedBy k ws (raw_joins_as k s t)
+    made s (told.Session n) = turned_made k.sessions ws raw_session count
+    made s _ = turned_still k.sessions k.sessions ws count (stand_same k.sessions)
 
 -- ---- all ways
 
 -- on each session what is on its way is what was sent and didn't come; on one that isn't there nothing was sent
-pub record AreOnWay (past : List Moment) (came : Came) (w : World) : Type 0 where
+pub record AreOnWay (sent : AllSent) (came : Came) (w : World) : Type 0 where
   pub count : length w.wires ≡ length w.core.sessions
-  pub each : (side : Side) (n : ℕ) (x : Session) (q : Wire) → numbered w.core.sessions n ≡ Some x → numbered w.wires n ≡ Some q → IsWay (is_shut side (Some x)) (queue_of side q) (end_at side q) (came side n) (bytes_sent side n past)
-  pub none : (side : Side) (n : ℕ) → numbered w.core.sessions n ≡ None → (came side n ≡ 0) × (bytes_sent side n past ≡ [])
+  pub each : (side : Side) (n : ℕ) (x : Session) (q : Wire) → numbered w.core.sessions n ≡ Some x → numbered w.wires n ≡ Some q → IsWay (is_shut side (Some x)) (queue_of side q) (end_at side q) (came side n) (sent side n)
+  pub none : (side : Side) (n : ℕ) → numbered w.core.sessions n ≡ None → (came side n ≡ 0) × (sent side n ≡ [])
 
-from_both : (side : Side) (n : ℕ) (was : List ℕ) (ms : List Moment) (m : Moment) → bytes_from side n was (ms ++ m ∷ []) ≡ bytes_after side n (bytes_from side n was ms) m
-from_both side n was [] m = refl
-from_both side n was (x ∷ ms) m = from_both side n (bytes_after side n was x) ms m
+-- what is sent then at a moment, and at moments in a row
+abbrev pub sent_then : AllSent → Moment → AllSent
+sent_then sent m side n = bytes_after side n (sent side n) m
+
+abbrev pub sent_all : AllSent → List Moment → AllSent
+sent_all sent ms side n = bytes_from side n (sent side n) ms
 
 -- what a wire is after what a step puts into it
 put_at : (k : Core) (t : CoreStep) (lost : List Wire) (n : ℕ) (y : Session) (r z : Wire) → numbered t.core.sessions n ≡ Some y → numbered lost n ≡ Some r → numbered (down_put t.core.sessions (up_put t.core.sessions lost t.session t.up) t.down) n ≡ Some z
@@ -393,11 +412,11 @@ put_at k t lost n y r z at there is side = by side
     by Up = (ap (λ (v : Wire). v.up) z_is, ap (λ (v : Wire). v.server_end) z_is)
     by Down = (ap (λ (v : Wire). v.down) z_is, ap (λ (v : Wire). v.client_end) z_is)
 
-pub on_way_next : (past : List Moment) (came : Came) (w : World) (e : Event) → AreOnWay past came w → AreOnWay (past ++ moment w.core e ∷ []) came (happened w e)
-on_way_next past came w e h = record {
+pub on_way_next : (sent : AllSent) (came : Came) (w : World) (e : Event) → AreOnWay sent came w → AreOnWay (sent_then sent (moment w.core e)) came (happened w e)
+on_way_next sent came w e h = record {
   count = wires_count ∙ turned.count;
   each = each;
-  none = λ side n at. ((h.none side n (turned.none n at)).0, from_both side n [] past (moment w.core e) ∙ ap (λ (o : Option Session). unless_shut (is_shut side o) (bytes_sent side n past ++ bytes_of (sent_by side n t))) at);
+  none = λ side n at. ((h.none side n (turned.none n at)).0, ap (λ (o : Option Session). unless_shut (is_shut side o) (sent side n ++ bytes_of (sent_by side n t))) at);
 }
   where
     t : CoreStep
@@ -417,27 +436,24 @@ on_way_next past came w e h = record {
         ∙ all_count (ups (happens w.core e).core.sessions (happens w.core e).session (happens w.core e).up) (lost_by w.wires (happens w.core e).loss)
 
     shut_before : (side : Side) (n : ℕ) (y : Session) (r : Wire) → Was w.core.sessions w.wires n y r → is_shut side (Some y) ≡ true → (queue_of side r ≡ []) × (end_at side r ≡ nothing_read)
-    shut_before side n y r (inl new) shut = absurd (by side new.1 new.2 shut)
+    shut_before side n y r (inl new) shut = subst (λ (v : Wire). (queue_of side v ≡ []) × (end_at side v ≡ nothing_read)) (sym new.1) (by side)
       where
-        both : (b : Bool) → b ≡ false → b ≡ true → ⊥
-        both b e f = absurd cc
-
-        by : (side : Side) → y.hung ≡ false → y.cut ≡ false → is_shut side (Some y) ≡ true → ⊥
-        by Up hung cut shut = both y.hung hung shut
-        by Down hung cut shut = both y.cut cut shut
+        by : (side : Side) → (queue_of side new_wire ≡ []) × (end_at side new_wire ≡ nothing_read)
+        by Up = (refl, refl)
+        by Down = (refl, refl)
     shut_before side n y r (inr (x, q, at, there, left)) shut = elim (left side) [
       | inr gone ↦ (gone.1, gone.2)
       | inl same ↦
           let was : is_shut side (Some x) ≡ true = sym same.0 ∙ shut in
-          let way = subst (λ (b : Bool). IsWay b (queue_of side q) (end_at side q) (came side n) (bytes_sent side n past)) was (h.each side n x q at there) in
+          let way = subst (λ (b : Bool). IsWay b (queue_of side q) (end_at side q) (came side n) (sent side n)) was (h.each side n x q at there) in
           (same.1 ∙ way.0, same.2 ∙ way.1)
     ]
 
-    open_before : (side : Side) (n : ℕ) (y : Session) (r : Wire) → Was w.core.sessions w.wires n y r → is_shut side (Some y) ≡ false → IsWay false (queue_of side r) (end_at side r) (came side n) (bytes_sent side n past)
+    open_before : (side : Side) (n : ℕ) (y : Session) (r : Wire) → Was w.core.sessions w.wires n y r → is_shut side (Some y) ≡ false → IsWay false (queue_of side r) (end_at side r) (came side n) (sent side n)
     open_before side n y r (inl new) shut =
         let none = h.none side n new.0 in
-        subst (λ (v : Wire). IsWay false (queue_of side v) (end_at side v) (came side n) (bytes_sent side n past)) (sym new.3)
-        (subst (λ (c : ℕ). IsWay false (queue_of side new_wire) (end_at side new_wire) c (bytes_sent side n past)) (sym none.0)
+        subst (λ (v : Wire). IsWay false (queue_of side v) (end_at side v) (came side n) (sent side n)) (sym new.1)
+        (subst (λ (c : ℕ). IsWay false (queue_of side new_wire) (end_at side new_wire) c (sent side n)) (sym none.0)
         (subst (λ (b : List ℕ). IsWay false (queue_of side new_wire) (end_at side new_wire) 0 b) (sym none.1) (by side)))
       where
         by : (side : Side) → IsWay false (queue_of side new_wire) (end_at side new_wire) 0 []
@@ -447,21 +463,21 @@ on_way_next past came w e h = record {
       | inr gone ↦ absurd (both (is_shut side (Some y)) gone.0 shut)
       | inl same ↦
           let was : is_shut side (Some x) ≡ false = sym same.0 ∙ shut in
-          let way = subst (λ (b : Bool). IsWay b (queue_of side q) (end_at side q) (came side n) (bytes_sent side n past)) was (h.each side n x q at there) in
+          let way = subst (λ (b : Bool). IsWay b (queue_of side q) (end_at side q) (came side n) (sent side n)) was (h.each side n x q at there) in
           (way.0, same.1 ∙ way.1, same.2 ∙ way.2)
     ]
       where
         both : (b : Bool) → b ≡ true → b ≡ false → ⊥
         both b e f = absurd cc
 
-    each : (side : Side) (n : ℕ) (y : Session) (z : Wire) → numbered (happens w.core e).core.sessions n ≡ Some y → numbered (happened w e).wires n ≡ Some z → IsWay (is_shut side (Some y)) (queue_of side z) (end_at side z) (came side n) (bytes_sent side n (past ++ moment w.core e ∷ []))
+    each : (side : Side) (n : ℕ) (y : Session) (z : Wire) → numbered (happens w.core e).core.sessions n ≡ Some y → numbered (happened w e).wires n ≡ Some z → IsWay (is_shut side (Some y)) (queue_of side z) (end_at side z) (came side n) (sent_then sent (moment w.core e) side n)
     each side n y z at is =
         let there = also_numbered (happened w e).wires (lost_by w.wires (happens w.core e).loss) n z (sym wires_count) is in
         let r : Wire = there.0 in
         let put = put_at w.core (happens w.core e) (lost_by w.wires (happens w.core e).loss) n y there.0 z at there.1 is side in
         let was = turned.each n y there.0 at there.1 in
-        let sent : bytes_sent side n (past ++ moment w.core e ∷ []) ≡ unless_shut (is_shut side (Some y)) (bytes_sent side n past ++ bytes_of (sent_by side n (happens w.core e))) = from_both side n [] past (moment w.core e) ∙ ap (λ (o : Option Session). unless_shut (is_shut side o) (bytes_sent side n past ++ bytes_of (sent_by side n (happens w.core e)))) at in
-        subst (IsWay (is_shut side (Some y)) (queue_of side z) (end_at side z) (came side n)) (sym sent)
-        (subst (λ (v : List ℕ). IsWay (is_shut side (Some y)) v (end_at side z) (came side n) (unless_shut (is_shut side (Some y)) (bytes_sent side n past ++ bytes_of (sent_by side n (happens w.core e))))) (sym put.0)
-        (subst (λ (v : Unread). IsWay (is_shut side (Some y)) (unless (is_shut side (Some y)) (queue_of side there.0) (bytes_of (sent_by side n (happens w.core e)))) v (came side n) (unless_shut (is_shut side (Some y)) (bytes_sent side n past ++ bytes_of (sent_by side n (happens w.core e))))) (sym put.1)
-        (way_next (is_shut side (Some y)) (queue_of side there.0) (end_at side there.0) (came side n) (bytes_sent side n past) (bytes_of (sent_by side n (happens w.core e))) (shut_before side n y there.0 was) (open_before side n y there.0 was))))
+        let more : sent_then sent (moment w.core e) side n ≡ unless_shut (is_shut side (Some y)) (sent side n ++ bytes_of (sent_by side n (happens w.core e))) = ap (λ (o : Option Session). unless_shut (is_shut side o) (sent side n ++ bytes_of (sent_by side n (happens w.core e)))) at in
+        subst (IsWay (is_shut side (Some y)) (queue_of side z) (end_at side z) (came side n)) (sym more)
+        (subst (λ (v : List ℕ). IsWay (is_shut side (Some y)) v (end_at side z) (came side n) (unless_shut (is_shut side (Some y)) (sent side n ++ bytes_of (sent_by side n (happens w.core e))))) (sym put.0)
+        (subst (λ (v : Unread). IsWay (is_shut side (Some y)) (unless (is_shut side (Some y)) (queue_of side there.0) (bytes_of (sent_by side n (happens w.core e)))) v (came side n) (unless_shut (is_shut side (Some y)) (sent side n ++ bytes_of (sent_by side n (happens w.core e))))) (sym put.1)
+        (way_next (is_shut side (Some y)) (queue_of side there.0) (end_at side there.0) (came side n) (sent side n) (bytes_of (sent_by side n (happens w.core e))) (shut_before side n y there.0 was) (open_before side n y there.0 was))))

@@ -10,7 +10,7 @@ use Rattle.trace_ends.specs.Session.{taken_of as session_taken}
 use Rattle.trace_replay.specs.Faithful.{OpenedBy}
 use Rattle.trace_replay.specs.Traffic.{attempts_in, no_attempt}
 use Rattle.trace_replay.specs.Trail.{given_by_message}
-use Rattle.kept_promise.proofs.Common.{Contains-append_right, Contains-push, Event.Does, Command, Seat, command_step, word_of, file_of, value_at_begin, does, calls_in, taken_at, Deal.Sent, Deal.Took, Deal.Found, nat_tests, ◌==◌, ◌&&◌, nat_le, nat_lt, slice_get, slice_set, Body, Message, Pending, got_step, idle, took_if, drops, ClientStep, Ended, Stage, State, Task, until, Op, Opening, TakenCall, op_after, Core, Event, Event.Hears, CoreStep, numbered, session_of, ops_after, ops_with, acted, happens, Moment, client_of, owner_in, wanted_by, is_in, Deal, deals_with, deals_of, Book, Queue, version_at, told_message, took}
+use Rattle.kept_promise.proofs.Common.{Contains-append_right, Contains-push, Event.Does, Command, Seat, command_step, word_of, file_of, value_at_begin, does, calls_in, taken_at, Deal.Sent, Deal.Took, Deal.Found, nat_tests, ◌==◌, ◌&&◌, nat_le, nat_lt, slice_get, slice_set, Body, Message, Pending, got_step, idle, took_if, drops, ClientStep, Ended, Stage, State, Task, until, Op, Opening, TakenCall, op_after, Core, Event, Event.Hears, CoreStep, numbered, session_of, ops_after, ops_with, acted, happens, Moment, client_of, owner_in, wanted_by, is_in, Deal, deals_with, deals_of, Book, Queue, version_at, told_message, took, history}
 use Rattle.kept_promise.proofs.Lists.{some_is, nothing_there, at_replaced, of_appended}
 use Rattle.kept_promise.proofs.Messages.{Job, job, stage_word, AllTolds, AnswerOf, IsAnswer, FetchOf, IsTrying}
 use Rattle.kept_promise.proofs.Rights.{Caused}
@@ -19,7 +19,7 @@ use Rattle.kept_promise.proofs.Facts.{IsKept, IsSession, is_naming}
 use Rattle.kept_promise.proofs.RunsCarried.{book_at, moment, Step, Carried}
 use Rattle.kept_promise.proofs.Actors.{job_task, Heard, heard_at, heard_acts, own_op}
 use Rattle.kept_promise.proofs.Replies.{recall_ops}
-use Rattle.kept_promise.proofs.Versions.{version_in}
+use Rattle.kept_promise.proofs.Versions.{version_in, versions_beside}
 use Rattle.kept_promise.proofs.VersionRuns.{word_after, heard_finds, opened_by, unnamed}
 use Rattle.kept_promise.proofs.JobFacts.{ops_shape}
 use Rattle.kept_promise.proofs.Adjusts.{adjusted_core}
@@ -30,7 +30,7 @@ use Rattle.kept_promise.proofs.OpenedNow.{OpensNow, IsWalk, opens_command, now_l
 use Rattle.trace_replay.specs.AtOnce.{acts_for}
 use Rattle.trace_ends.specs.Ops.{begun as begun_op, file_with}
 use Rattle.command_text.specs.declared.command.Command.TheVariants as command
-use Rattle.kept_promise.proofs.OpsAfter.{OpsAfter, MayOpen, ops_after_event, same_versions, opened_before}
+use Rattle.kept_promise.proofs.OpsAfter.{OpsAfter, MayOpen, ops_after_event, versions_all, opened_before}
 use Rattle.kept_promise.proofs.StepCases.{Cases, took_cases, walk_cases, IsOpenedBy}
 use Rattle.kept_promise.proofs.Taking.{Moved, version_later, versions_after, tries_of, moved_by}
 use Rattle.kept_promise.proofs.Logs.{deals_apart, deals_same, deals_pointed, deals_silent, deals_early}
@@ -43,6 +43,8 @@ use Rattle.kept_promise.proofs.NamesLog.{names_count}
 use Rattle.kept_promise.proofs.OpensLog.{OpenRead, last_most, once_is}
 use Rattle.register_model.specs.Register.{changes}
 use Rattle.kept_promise.proofs.OpFacts.{heard_log}
+use Rattle.kept_promise.proofs.Turns.{has_owner}
+use Rattle.register_model.specs.Raw.{op_of}
 
 -- ---- what is carried
 
@@ -51,7 +53,7 @@ pub record IsOnce (past : List Moment) (book : Book) (o : Op) : Type 0 where
   pub end : ℕ
   pub end_is : o.end ≡ Some end
   pub by : end ≤ book.steps
-  pub once : 1 < begins_in (deals_of o past) → Moved book.ops o.file o.begin end
+  pub once : 1 < begins_in (deals_of o past) → Moved (history book).ops o.file o.begin end
   pub called : PointedAt book past o
 
 abbrev OnceAt : (all past : List Moment) → List Opening → Core → Type 0
@@ -74,7 +76,7 @@ ended_apart o e n c at le = ap (λ t. (c == o.client) && (nat_le o.begin (n + 1)
     by false b false f = refl
 
 -- a history that has the same versions so far
-stays : (all past : List Moment) (opening : List Opening) (k : Core) (e : Event) (after : Core) (o : Op) → k.steps ≤ after.steps → ((f q : ℕ) → q ≤ k.steps → version_in after.ops f q ≡ version_in k.ops f q) → IsOnce past (book_at opening k all) o → IsOnce (past ++ moment k e ∷ []) (book_at opening after all) o
+stays : (all past : List Moment) (opening : List Opening) (k : Core) (e : Event) (after : Core) (o : Op) → k.steps ≤ after.steps → ((f q : ℕ) → q ≤ k.steps → version_in (after.ops ++ map op_of after.raws) f q ≡ version_in (k.ops ++ map op_of k.raws) f q) → IsOnce past (book_at opening k all) o → IsOnce (past ++ moment k e ∷ []) (book_at opening after all) o
 stays all past opening k e after o le alike h = record {
   end = h.end;
   end_is = h.end_is;
@@ -167,7 +169,7 @@ once_hears : FitLaws → (all past : List Moment) (opening : List Opening) (k : 
 once_hears fits all past opening k qs after n now bytes mid kept h left met before =
     subst (λ (t : CoreStep). OnceAt all (past ++ moment k (Hears n now bytes) ∷ []) opening t.core) (sym turned)
     (λ p len digest q at is. elim (ops_shape k.ops h.seat.place r.0 taken (k.steps + 1) r.1 p q at) [
-      | inr old ↦ stays all past opening k (Hears n now bytes) (acted k h.session.owner h.seat r.0 r.1).core q (omega arith) (λ f m le. versions_after k.ops h.seat.place r.0 taken (k.steps + 1) r.1 finds f m) (before p len digest q old.1 is)
+      | inr old ↦ stays all past opening k (Hears n now bytes) (acted k h.session.owner h.seat r.0 r.1).core q (omega arith) (λ f m le. moved_none f m) (before p len digest q old.1 is)
       | inl new ↦ subst (IsOnce (past ++ moment k (Hears n now bytes) ∷ []) (book_at opening (acted k h.session.owner h.seat r.0 r.1).core all)) (sym new.3) (ended p len digest new.0 new.1 new.2 (ap (λ (z : Op). z.outcome) (sym new.3) ∙ is))
     ])
   where
@@ -186,6 +188,10 @@ once_hears fits all past opening k qs after n now bytes mid kept h left met befo
     taken : List TakenCall
     taken = session_taken (session_of k.sessions h.seat.session)
 
+    -- no version is another by what a client hears
+    moved_none : (f q : ℕ) → version_in (ops_with k.ops h.seat.place r.0 taken (k.steps + 1) r.1 ++ map op_of k.raws) f q ≡ version_in (k.ops ++ map op_of k.raws) f q
+    moved_none f q = versions_beside f q (ops_with k.ops h.seat.place r.0 taken (k.steps + 1) r.1) k.ops k.raws (versions_after k.ops h.seat.place r.0 taken (k.steps + 1) r.1 finds f q)
+
     turned : happens k (Hears n now bytes) ≡ acted k h.session.owner h.seat (got_step h.seat.client (Ok (told_message h.told)) now).0 (got_step h.seat.client (Ok (told_message h.told)) now).1
     turned = heard_acts fits (book_at opening k all) k qs n now bytes mid kept h
 
@@ -196,7 +202,7 @@ once_hears fits all past opening k qs after n now bytes mid kept h left met befo
     taken_is = sym (ap (λ l. session_taken (session_of k.sessions l)) h.newest ∙ ap session_taken h.at)
 
     s : IsSession (book_at opening k all) k.seats k.server n h.session h.queue
-    s = kept.sessions n h.session h.queue h.at h.queue_is
+    s = kept.sessions n h.session h.queue h.at h.queue_is (has_owner k.seats h.session h.seat h.owner)
 
     same_seat : s.seat ≡ h.seat
     same_seat = some_is s.seat h.seat (sym s.owner ∙ h.owner)
@@ -291,22 +297,22 @@ once_hears fits all past opening k qs after n now bytes mid kept h left met befo
         called_by (inr (unfound, served)) = inl (called unfound served)
 
         moved : r.1.found ≡ None → 1 < begins_in (deals_of (op_after o (got_step h.seat.client (Ok (told_message h.told)) now).0 (session_taken (session_of k.sessions h.seat.session)) (k.steps + 1) (got_step h.seat.client (Ok (told_message h.told)) now).1) (past ++ moment k (Hears n now bytes) ∷ []))
-            → Moved (ops_with k.ops h.seat.place (got_step h.seat.client (Ok (told_message h.told)) now).0 (session_taken (session_of k.sessions h.seat.session)) (k.steps + 1) (got_step h.seat.client (Ok (told_message h.told)) now).1) (op_after o (got_step h.seat.client (Ok (told_message h.told)) now).0 (session_taken (session_of k.sessions h.seat.session)) (k.steps + 1) (got_step h.seat.client (Ok (told_message h.told)) now).1).file (op_after o (got_step h.seat.client (Ok (told_message h.told)) now).0 (session_taken (session_of k.sessions h.seat.session)) (k.steps + 1) (got_step h.seat.client (Ok (told_message h.told)) now).1).begin (k.steps + 1)
+            → Moved (ops_with k.ops h.seat.place (got_step h.seat.client (Ok (told_message h.told)) now).0 (session_taken (session_of k.sessions h.seat.session)) (k.steps + 1) (got_step h.seat.client (Ok (told_message h.told)) now).1 ++ map op_of k.raws) (op_after o (got_step h.seat.client (Ok (told_message h.told)) now).0 (session_taken (session_of k.sessions h.seat.session)) (k.steps + 1) (got_step h.seat.client (Ok (told_message h.told)) now).1).file (op_after o (got_step h.seat.client (Ok (told_message h.told)) now).0 (session_taken (session_of k.sessions h.seat.session)) (k.steps + 1) (got_step h.seat.client (Ok (told_message h.told)) now).1).begin (k.steps + 1)
         moved unfound lt =
             let j : Job = w.0 in
             let trying = subst (IsTrying book) w.1 (kept.seats h.session.owner h.seat h.owner).trying in
             let same = begun in
             let more_ = begun_by (deals_of o past) o.file o.value j.stage (met.jobs h.session.owner h.seat j o h.owner w.1 there) stage_open (omega (arith, lt, same)) in
             let m = moved_by book taken j o there trying fetch stage_open more_ in
-            subst (λ f. Moved (ops_with k.ops h.seat.place r.0 taken (k.steps + 1) r.1) f new.begin (k.steps + 1)) (sym (file_stays o r.0 taken (k.steps + 1) r.1 unfound ∙ w.5 (unnamed w.0.stage (ap changes stage_open))))
-            (let begin = begin_is r.1.ended in let m1 = m.1 in (m.0, omega (arith, m1, begin), m.2, λ v. m.3 (ap (version_in k.ops j.file) (sym begin) ∙ sym (versions_after k.ops h.seat.place r.0 taken (k.steps + 1) r.1 finds j.file new.begin) ∙ v ∙ versions_after k.ops h.seat.place r.0 taken (k.steps + 1) r.1 finds j.file m.0)))
+            subst (λ f. Moved (ops_with k.ops h.seat.place r.0 taken (k.steps + 1) r.1 ++ map op_of k.raws) f new.begin (k.steps + 1)) (sym (file_stays o r.0 taken (k.steps + 1) r.1 unfound ∙ w.5 (unnamed w.0.stage (ap changes stage_open))))
+            (let begin = begin_is r.1.ended in let m1 = m.1 in (m.0, omega (arith, m1, begin), m.2, λ v. m.3 (ap (version_in (k.ops ++ map op_of k.raws) j.file) (sym begin) ∙ sym (moved_none j.file new.begin) ∙ v ∙ moved_none j.file m.0)))
           where
             begin_is : (l : Option Ended) → (op_after o r.0 taken (k.steps + 1) (record r.1 { ended = l })).begin ≡ o.begin
             begin_is None = refl
             begin_is (Some x) = refl
 
         once_by : ((x : OpensNow h.seat.client.cache now r last.0) × (r.1.found ≡ Some x.file) × IsWalk w.0.stage) ⊎ ((r.1.found ≡ None) × ((v : ℕ) × StageCall book taken w.0 w.0.stage last.0.rests_on))
-            → 1 < begins_in (deals_of (op_after o r.0 taken (k.steps + 1) r.1) (past ++ moment k (Hears n now bytes) ∷ [])) → Moved (ops_with k.ops h.seat.place r.0 taken (k.steps + 1) r.1) (op_after o r.0 taken (k.steps + 1) r.1).file (op_after o r.0 taken (k.steps + 1) r.1).begin (k.steps + 1)
+            → 1 < begins_in (deals_of (op_after o r.0 taken (k.steps + 1) r.1) (past ++ moment k (Hears n now bytes) ∷ [])) → Moved (ops_with k.ops h.seat.place r.0 taken (k.steps + 1) r.1 ++ map op_of k.raws) (op_after o r.0 taken (k.steps + 1) r.1).file (op_after o r.0 taken (k.steps + 1) r.1).begin (k.steps + 1)
         once_by (inr (unfound, served)) lt = moved unfound lt
         once_by (inl (x, found, (y, v, walk))) lt =
             let names = subst (MeetsBy (deals_of o past) o.file o.value) walk (met.jobs h.session.owner h.seat w.0 o h.owner w.1 there) in
@@ -321,12 +327,12 @@ once_quiet : FitLaws → (all past rest : List Moment) (opening : List Opening) 
 once_quiet laws all past rest opening k qs e mid after s quiet h = λ p len digest r at is.
     let w = ops_after_event laws all past rest opening k qs e mid after s in
     let o = opened_before (book_at opening k all) k qs e (happens k e).core.ops s.kept quiet w.0 p len digest r at is in
-    stays all past opening k e (happens k e).core r w.1 (same_versions k e (happens k e).core.ops w.0) (h p len digest r o is)
+    stays all past opening k e (happens k e).core r w.1 (versions_all k e (happens k e).core.ops w.0) (h p len digest r o is)
 
 -- an open at once
 once_does : FitLaws → (all past rest : List Moment) (opening : List Opening) (k : Core) (qs : List Queue) (c now : ℕ) (d : Command) (mid after : List Queue) → Step all past rest opening k qs (Does c now d) mid after → Once all past opening k → OnceAt all (past ++ moment k (Does c now d) ∷ []) opening (happens k (Does c now d)).core
 once_does laws all past rest opening k qs c now d mid after s h = λ p len digest o at is. elim (of_appended k.ops new p o (ap (λ (t : CoreStep). slice_get t.core.ops p) (sym turned) ∙ at)) [
-  | inr old ↦ stays all past opening k (Does c now d) (happens k (Does c now d)).core o w.1 (same_versions k (Does c now d) (happens k (Does c now d)).core.ops w.0) (h.once p len digest o old is)
+  | inr old ↦ stays all past opening k (Does c now d) (happens k (Does c now d)).core o w.1 (versions_all k (Does c now d) (happens k (Does c now d)).core.ops w.0) (h.once p len digest o old is)
   | inl last ↦ subst (IsOnce (past ++ moment k (Does c now d) ∷ []) (book_at opening (happens k (Does c now d)).core all)) (sym last.1) (begun len digest (ap (λ (z : Op). z.outcome) (sym last.1) ∙ is))
 ]
   where
@@ -394,7 +400,7 @@ once_event laws all past rest opening k qs (Hears n now bytes) mid after s h = e
   | inr recall ↦ (λ p len digest r at is.
       let w = ops_after_event laws all past rest opening k qs (Hears n now bytes) mid after s in
       let same = recall_ops laws (book_at opening k all) k qs n now bytes mid s.kept recall in
-      stays all past opening k (Hears n now bytes) (happens k (Hears n now bytes)).core r w.1 (same_versions k (Hears n now bytes) (happens k (Hears n now bytes)).core.ops w.0) (h.once p len digest r (ap (λ (l : List Op). slice_get l p) (sym same) ∙ at) is))
+      stays all past opening k (Hears n now bytes) (happens k (Hears n now bytes)).core r w.1 (versions_all k (Hears n now bytes) (happens k (Hears n now bytes)).core.ops w.0) (h.once p len digest r (ap (λ (l : List Op). slice_get l p) (sym same) ∙ at) is))
 ]
 once_event laws all past rest opening k qs (Does c now d) mid after s h = once_does laws all past rest opening k qs c now d mid after s h
 once_event laws all past rest opening k qs e mid after s h = once_quiet laws all past rest opening k qs e mid after s (λ z. elim z [ inl does ↦ does | inr hears ↦ hears ]) h.once
@@ -432,6 +438,6 @@ opened_once book o len digest is open_ sum own read once = record {
             let m = once.once (grind (arith, nat_tests, f)) in
             let last : e ≡ once.end = some_is e once.end (sym at ∙ once.end_is) in
             let le = m.2 in
-            let x = version_later book.ops o.file o.begin m.0 m.1 in
-            let y = version_later book.ops o.file m.0 (e + 1) (omega (arith, le, last)) in
+            let x = version_later (history book).ops o.file o.begin m.0 m.1 in
+            let y = version_later (history book).ops o.file m.0 (e + 1) (omega (arith, le, last)) in
             absurd (m.3 (omega (arith, x, y, versions)))

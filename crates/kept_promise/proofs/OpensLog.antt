@@ -341,7 +341,7 @@ opened_content book more taken j o new p len digest f t are moments word file op
         let moment_is : h.told.moment ≡ q = some_is h.told.moment q (sym h.told.was ∙ point q opened.within.0) in
         let there : slice_get book.ops p ≡ Some o = ap (slice_get book.ops) (sym t.place) ∙ t.at in
         let old_word : o.word ≡ words.Open = t.word ∙ at in
-        let same : value_at more new.file q ≡ value_at book new.file q = same_value book more new.file q p o new t.opening are there old_word word in
+        let same : value_at more new.file q ≡ value_at book new.file q = same_value book more new.file q p o new t.opening t.raws are there old_word word in
         let had : value_at book new.file q ≡ Some h.value = ap (λ z. value_at book z q) (file ∙ t.file) ∙ ap (value_at book j.file) (sym moment_is) ∙ h.told.value in
         inl (some_is new.value h.value (sym value ∙ same ∙ had) ∙ content)
   ]

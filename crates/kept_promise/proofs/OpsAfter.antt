@@ -1,5 +1,5 @@
 -- What an event makes of the operations: nothing, or one begins, or a client goes on with its own, or a change gives one its point.
-use Rattle.std.proofs.Common.{◌⊎◌, inl, inr, ◌≡◌, ℕ, ◌+◌, ◌<◌, ◌≤◌, List, [], ◌∷◌, ◌++◌, Option, Some, None, Ok, true, false, refl, sym, ap, ◌∙◌, subst, arith}
+use Rattle.std.proofs.Common.{◌⊎◌, inl, inr, ◌≡◌, ℕ, ◌+◌, ◌<◌, ◌≤◌, List, [], ◌∷◌, ◌++◌, Option, Some, None, Ok, true, false, refl, sym, ap, ◌∙◌, subst, arith, map}
 use Rattle.client_state.specs.State as client
 use Rattle.client_state.specs.declared.step.Outcome.TheVariants as outcome
 use Rattle.register_model.specs.declared.op.Outcome.TheVariants as told
@@ -12,13 +12,14 @@ use Rattle.kept_promise.proofs.Actors.{acts_alone, own_op}
 use Rattle.kept_promise.proofs.Marks.{unpointed, unchanging}
 use Rattle.kept_promise.proofs.Counted.{AlikeUpTo, IsActor, running_past}
 use Rattle.kept_promise.proofs.JobFacts.{ops_shape}
-use Rattle.kept_promise.proofs.Versions.{version_in, count_replaced, count_appended}
+use Rattle.kept_promise.proofs.Versions.{version_in, count_replaced, count_appended, versions_whole}
 use Rattle.kept_promise.proofs.Taking.{versions_after}
 use Rattle.kept_promise.proofs.CommandOps.{made_by, made_later, made_point, made_quiet, made_by_now}
 use Rattle.kept_promise.proofs.EventCases.{Settled, event_cases}
 use Rattle.kept_promise.proofs.VersionRuns.{heard_finds, heard_shut, change_not_opened, change_versions}
 use Rattle.kept_promise.proofs.Found.{cut_finds, Quietly}
 use Rattle.kept_promise.proofs.Fits.{FitLaws}
+use Rattle.register_model.specs.Raw.{op_of}
 
 abbrev pub IsHears : Event → Type 0
 IsHears (Hears n now bytes) = Unit {0}
@@ -145,6 +146,10 @@ same_versions k e ops by f q le = shown by
     shown (inr (inr (inl a))) = ap (λ (l : List Op). version_in l f q) a.is ∙ versions_after k.ops a.seat.place a.after (session_taken (session_of k.sessions a.seat.session)) (k.steps + 1) a.acts a.finds f q
     shown (inr (inr (inr (inl same)))) = ap (λ (l : List Op). version_in l f q) same
     shown (inr (inr (inr (inr s)))) = ap (λ (l : List Op). version_in l f q) s.is ∙ ap (λ z. z + 1) (count_replaced f q k.ops s.place s.op (record s.op { file = s.file; point = Some (k.steps + 1) }) s.there (change_versions k ops s f q le))
+
+-- with the changes by others
+pub versions_all : (k : Core) (e : Event) (ops : List Op) → OpsAfter e k ops → (f q : ℕ) → q ≤ k.steps → version_in (ops ++ map op_of (happens k e).core.raws) f q ≡ version_in (k.ops ++ map op_of k.raws) f q
+versions_all k e ops by f q le = versions_whole k e ops f q le (same_versions k e ops by f q le)
 
 -- where no client was told to do something, nor heard anything, an open that has its content had it before
 pub opened_before : (book : Book) (k : Core) (qs : List Queue) (e : Event) (ops : List Op) → IsKept book k qs → (MayOpen e → ⊥) → OpsAfter e k ops → (p len : ℕ) (digest : List ℕ) (r : Op) → slice_get ops p ≡ Some r → r.outcome ≡ told.Opened len digest → slice_get k.ops p ≡ Some r

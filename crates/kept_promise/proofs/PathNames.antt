@@ -207,7 +207,7 @@ IsGoalNamed (goal.RenameTo dir n to) = IsName n × IsName to
 abbrev pub IsWalkNamed : Walk → Type 0
 IsWalkNamed w = AreNames w.left × IsGoalNamed w.goal
 
-no_names : AreNames []
+pub no_names : AreNames []
 no_names = (tt, omega arith)
 
 pub arrives_named : (dir : ℕ) (left : List (List ℕ)) (g : Goal) → AreNames left → IsGoalNamed g → IsWalkNamed (arrives dir left g)

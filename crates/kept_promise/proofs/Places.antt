@@ -1,6 +1,7 @@
 -- The element of a list at a number becomes another: when two such changes may be swapped, and what stays.
-use Rattle.std.proofs.Common.{◌≡◌, ℕ, zero, suc, List, [], ◌∷◌, Some, None, refl, ap, ◌∙◌, Option, sym}
+use Rattle.std.proofs.Common.{◌≡◌, ℕ, zero, suc, List, [], ◌∷◌, Some, None, refl, ap, ◌∙◌, Option, sym, length, ◌⊎◌, inl, inr, ◌++◌}
 use Rattle.kept_promise.proofs.Common.{slice_get, slice_set, numbered, with_numbered}
+use Rattle.kept_promise.proofs.Lists.{nothing_there, of_appended, of_replaced}
 
 abbrev pub at_place : {A : Type 0} → (A → A) → List A → ℕ → List A
 at_place f [] k = []
@@ -10,6 +11,15 @@ at_place f (q ∷ qs) (suc k) = q ∷ at_place f qs k
 abbrev pub becomes : {A : Type 0} → (A → A) → List A → (number : ℕ) → List A
 becomes f qs zero = qs
 becomes f qs (suc k) = at_place f qs k
+
+place_count : {A : Type 0} (f : A → A) (qs : List A) (k : ℕ) → length (at_place f qs k) ≡ length qs
+place_count f [] k = refl
+place_count f (q ∷ qs) zero = refl
+place_count f (q ∷ qs) (suc k) = ap suc (place_count f qs k)
+
+pub become_count : {A : Type 0} (f : A → A) (qs : List A) (number : ℕ) → length (becomes f qs number) ≡ length qs
+become_count f qs zero = refl
+become_count f qs (suc k) = place_count f qs k
 
 place_there : {A : Type 0} (f : A → A) (qs : List A) (k : ℕ) (q : A) → slice_get qs k ≡ Some q → slice_set qs k (f q) ≡ at_place f qs k
 place_there f [] k q e = absurd cc
@@ -93,3 +103,14 @@ pub become_has : {A B : Type 0} (has : A → B) (f : A → A) → ((q : A) → h
 become_has has f h qs zero n q e = (q, e, refl)
 become_has has f h qs (suc i) zero q e = absurd cc
 become_has has f h qs (suc i) (suc k) q e = place_has has f h qs i k q e
+
+-- what stands at a number of a list with another there is that one, or was there
+pub of_with : {A : Type 0} (xs : List A) (m n : ℕ) (y z : A) → numbered (with_numbered xs m y) n ≡ Some z → ((n ≡ m) × (z ≡ y)) ⊎ (numbered xs n ≡ Some z)
+of_with xs zero n y z e = inr e
+of_with xs (suc m) zero y z e = nothing_there z e
+of_with xs (suc m) (suc n) y z e = elim (of_replaced xs m y n z e) [ inl h ↦ inl (ap suc h.0, h.1) | inr h ↦ inr h.1 ]
+
+-- and of one with one more
+pub of_more : {A : Type 0} (xs : List A) (n : ℕ) (y z : A) → numbered (xs ++ y ∷ []) n ≡ Some z → ((n ≡ suc (length xs)) × (z ≡ y)) ⊎ (numbered xs n ≡ Some z)
+of_more xs zero y z e = nothing_there z e
+of_more xs (suc n) y z e = elim (of_appended xs y n z e) [ inl h ↦ inl (ap suc h.0, h.1) | inr h ↦ inr h ]

@@ -187,6 +187,7 @@ promise_of input w leased soon ran h awaited leases counted =
         removed = λ i p e at is kind. changes.0.0.removed i p e at is kind;
         settles = settles_ready (book_of w all) changes.0.0.makes changes.0.1;
         waits = waits_in_turn (book_of w all) w.core leases.0;
+        closed = λ m there. h.more.1.0.closes m there;
         recalls = λ m there. answers_recall m;
         notes = λ m there. leases.1.come m there;
         points = λ k o at. opens_at (book_of w all) o (λ len digest is. (logs.1.0.once k len digest o at is).called);
@@ -212,7 +213,7 @@ promise_of input w leased soon ran h awaited leases counted =
         stored = λ k o at sent. has_stored all o (stored.counted.counts k o at) (stored.closes.each k o at) (logs.1.1.each k o at) sent;
         made = λ k p o at close point. made_sent (book_of w all) all w.opening w.core qs h.kept stored k p o at close point;
       };
-      legal = legal_kept (book_of w all) w.core qs h.kept leased;
+      legal = λ apart. (let l = legal_kept (book_of w all) w.core qs h.kept leased apart in record { apart = l.apart; within = l.within; opens = l.opens; absences = l.absences; successes = l.successes; failures = l.failures });
       complete = record {
         ended = completes fit_laws w all h.mixes h.kept h.carry h.fit h.rested;
         well = λ k d o was at alone asks free uncut.

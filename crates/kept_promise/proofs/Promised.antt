@@ -1,5 +1,5 @@
 -- What the facts of a world make of its history: each open and each close is whole, and what the server holds is what the history says.
-use Rattle.std.proofs.Common.{◌⊎◌, inl, inr, ◌≡◌, ℕ, zero, suc, ◌+◌, ◌<◌, ◌≤◌, List, [], ◌∷◌, length, Option, Some, None, Bool, true, false, refl, sym, ap, ◌∙◌, subst, arith, eq-eqb, eqb-true, IsSome}
+use Rattle.std.proofs.Common.{◌⊎◌, inl, inr, ◌≡◌, ℕ, zero, suc, ◌+◌, ◌<◌, ◌≤◌, List, [], ◌∷◌, length, Option, Some, None, Bool, true, false, refl, sym, ap, ◌∙◌, subst, arith, eq-eqb, eqb-true, IsSome, map}
 use Rattle.std.proofs.lemmas.Option.{slice_get-get_or}
 use Rattle.tree_calls.specs.declared.asked.Asked.{Asked}
 use Rattle.tree_calls.specs.declared.asked.Asked.TheVariants as asked
@@ -7,21 +7,25 @@ use Rattle.server_core.specs.State as server
 use Rattle.chunk_calls.specs.Files as the_files
 use Rattle.server_core.specs.declared.change.Wanted.TheVariants as wanted
 use Rattle.register_model.specs.Register as register
-use Rattle.register_model.specs.Register.{Absent, IsLegal, IsApart, IsWithin, OpensWhole, FindsGone, ChangesOnce, ChangesNothing, is_opened, is_stale}
+use Rattle.register_model.specs.Register.{Absent, IsLegal, IsApart, IsWithin, OpensWhole, FindsGone, ChangesOnce, ChangesNothing, is_opened, is_stale, IsFit}
 use Rattle.register_model.specs.declared.op.Outcome.{Outcome}
 use Rattle.register_model.specs.declared.op.Outcome.TheVariants as told
 use Rattle.register_model.specs.declared.op.Word.TheVariants as words
 use Rattle.trace_replay.specs.Book.{AreApart}
 use Rattle.trace_replay.specs.Traces.{IsWanted, HasTarget, HoldsValues, HoldsFile, HoldsFiles, HoldsContents, HoldsValue}
-use Rattle.kept_promise.proofs.Common.{nat_tests, ◌==◌, ◌&&◌, ◌||◌, nat_lt, All, slice_get, cond, FileChange, File, changes, is_closed, is_untold, Op, Word, Core, Session, numbered, World, hashed_of, stored_traffic, deals_of, Moment, Book, Or, history, value_at, version_at, Queue, Wanted}
-use Rattle.kept_promise.proofs.Lists.{some_is, nothing_there, within}
+use Rattle.kept_promise.proofs.Common.{nat_tests, ◌==◌, ◌&&◌, ◌||◌, nat_lt, All, slice_get, cond, FileChange, File, changes, is_closed, is_untold, Op, Word, Core, Session, numbered, World, hashed_of, stored_traffic, deals_of, Moment, Book, Or, history, value_at, version_at, Queue, Wanted, is_raw}
+use Rattle.kept_promise.proofs.Lists.{some_is, nothing_there, within, of_more, of_map, true_and_false}
 use Rattle.kept_promise.proofs.Keys.{own}
-use Rattle.kept_promise.proofs.Rights.{AreLeased, DoneBy, Caused, RefusedBy, IsRight, IsSound, IsFitted}
+use Rattle.kept_promise.proofs.Rights.{AreLeased, DoneBy, Caused, RefusedBy, IsRight, IsSound, IsFitted, IsStranger}
 use Rattle.kept_promise.proofs.Remains.{zero_never}
 use Rattle.kept_promise.proofs.Growth.{or_map}
 use Rattle.kept_promise.proofs.Facts.{FileIs, IsServer, IsKept, IsSession}
-use Rattle.kept_promise.proofs.Turns.{also_numbered}
+use Rattle.kept_promise.proofs.Turns.{also_numbered, raw_or_owned}
 use Rattle.kept_promise.proofs.Messages.{job, WaitsFor, asked_word}
+use Rattle.register_model.specs.Raw.{op_of, word_of}
+use Rattle.register_model.specs.declared.raw.Raw.{Raw}
+use Rattle.register_model.specs.declared.raw.RawKind.{RawKind}
+use Rattle.register_model.specs.declared.raw.RawKind.TheVariants as raw
 
 -- ---- an operation ended as it may
 
@@ -38,7 +42,7 @@ either_true false b e = inr e
 all_by_place : {A : Type 0} (P : A → Type 0) (xs : List A) → ((k : ℕ) (x : A) → slice_get xs k ≡ Some x → P x) → All P xs
 all_by_place P xs h = λ k d lt. h k _ (slice_get-get_or xs k d lt)
 
-apart_by_place : (book : Book) → IsSound book → (i k : ℕ) (a b : Op) → i < k → slice_get book.ops i ≡ Some a → slice_get book.ops k ≡ Some b → IsApart a b
+apart_by_place : (book : Book) → IsSound book → (i k : ℕ) (a b : Op) → i < k → slice_get (history book).ops i ≡ Some a → slice_get (history book).ops k ≡ Some b → IsApart a b
 apart_by_place book sound i k a b less at_a at_b = λ change p of_a of_b. elim (either_true (changes a.word) (changes b.word) change) [
   | inl first ↦ (let same = sound.journal.once i k p a b at_a at_b first of_a of_b in omega (arith, less, same))
   | inr second ↦ (let same = sound.journal.once k i p b a at_b at_a second of_b of_a in omega (arith, less, same))
@@ -117,14 +121,47 @@ changes_once book o r fit = (λ so. succeeds book o r so, λ change p point. (fi
 changes_nothing : (book : Book) (o : Op) → IsRight book o → ChangesNothing o
 changes_nothing book o r = λ change failed known. r.failed change failed known
 
+-- a change by a session that is no client's is right by itself
+stranger_word : (r : Raw) → (op_of r).word ≡ words.Open → ⊥
+stranger_word r e = by r.kind e
+  where
+    by : (k : RawKind) → word_of k ≡ words.Open → ⊥
+    by raw.Make e = absurd cc
+    by raw.Commit e = absurd cc
+    by raw.Remove e = absurd cc
+
+stranger_success : (r : Raw) → register.succeeded (op_of r) ≡ true
+stranger_success r = by r.kind refl
+  where
+    by : (k : RawKind) → r.kind ≡ k → register.succeeded (op_of r) ≡ true
+    by raw.Make e = ap (λ (k : RawKind). register.succeeded (op_of (record r { kind = k }))) e
+    by raw.Commit e = ap (λ (k : RawKind). register.succeeded (op_of (record r { kind = k }))) e
+    by raw.Remove e = ap (λ (k : RawKind). register.succeeded (op_of (record r { kind = k }))) e
+
+stranger_within : (book : Book) (r : Raw) → IsStranger book r → IsWithin (op_of r)
+stranger_within book r h = λ p at. (
+  (let order = h.order in let same = some_is r.point p at in omega (arith, order, same)),
+  λ lost t end. (let same = some_is r.point p at in let last = some_is r.point t end in omega (arith, same, last)),
+)
+
+stranger_once : (book : Book) (r : Raw) → IsStranger book r → ChangesOnce (history book) (op_of r)
+stranger_once book r h = (λ so. refl, λ change p at. subst (λ (z : ℕ). IsFit (op_of r).word (value_at book r.file z)) (some_is r.point p at) h.fit)
+
+-- each operation of a history is a client's, or one of these
+each_of : (book : Book) (P : Op → Type 0) → ((k : ℕ) (o : Op) → slice_get book.ops k ≡ Some o → P o) → ((k : ℕ) (r : Raw) → slice_get book.raws k ≡ Some r → P (op_of r)) → (i : ℕ) (o : Op) → slice_get (history book).ops i ≡ Some o → P o
+each_of book P own other i o at = elim (of_more book.ops (map op_of book.raws) i o at) [
+  | inl here ↦ own i o here
+  | inr there ↦ (let r = of_map op_of book.raws there.0 o there.2 in subst P (sym r.2) (other there.0 r.0 r.1))
+]
+
 pub legal_kept : (book : Book) (k : Core) (qs : List Queue) → IsKept book k qs → AreLeased book.moments → AreApart (hashed_of book.moments) → IsLegal (history book)
 legal_kept book k qs kept leased apart = record {
-  apart = λ i m d less within. apart_by_place book kept.sound i m _ _ less (slice_get-get_or book.ops i d (omega (arith, less, within))) (slice_get-get_or book.ops m d within);
-  within = all_by_place IsWithin book.ops (λ i o at. λ p e. let r = kept.sound.rights i o at in ((r.pointed p e).0, λ lost t end. r.within lost p t e end));
-  opens = all_by_place (OpensWhole (history book)) book.ops (λ i o at. opens_whole book o leased apart (kept.sound.rights i o at));
-  absences = all_by_place (FindsGone (history book)) book.ops (λ i o at. finds_gone book k.server kept.sound kept.server i o at);
-  successes = all_by_place (ChangesOnce (history book)) book.ops (λ i o at. changes_once book o (kept.sound.rights i o at) (kept.sound.fits i o at));
-  failures = all_by_place ChangesNothing book.ops (λ i o at. changes_nothing book o (kept.sound.rights i o at));
+  apart = λ i m d less within. apart_by_place book kept.sound i m _ _ less (slice_get-get_or (history book).ops i d (omega (arith, less, within))) (slice_get-get_or (history book).ops m d within);
+  within = all_by_place IsWithin (history book).ops (each_of book IsWithin (λ i o at. λ p e. let r = kept.sound.rights i o at in ((r.pointed p e).0, λ lost t end. r.within lost p t e end)) (λ i r at. stranger_within book r (kept.sound.strangers i r at)));
+  opens = all_by_place (OpensWhole (history book)) (history book).ops (each_of book (OpensWhole (history book)) (λ i o at. opens_whole book o leased apart (kept.sound.rights i o at)) (λ i r at. λ open_. absurd (stranger_word r open_)));
+  absences = all_by_place (FindsGone (history book)) (history book).ops (each_of book (FindsGone (history book)) (λ i o at. finds_gone book k.server kept.sound kept.server i o at) (λ i r at. λ open_. absurd (stranger_word r open_)));
+  successes = all_by_place (ChangesOnce (history book)) (history book).ops (each_of book (ChangesOnce (history book)) (λ i o at. changes_once book o (kept.sound.rights i o at) (kept.sound.fits i o at)) (λ i r at. stranger_once book r (kept.sound.strangers i r at)));
+  failures = all_by_place ChangesNothing (history book).ops (each_of book ChangesNothing (λ i o at. changes_nothing book o (kept.sound.rights i o at)) (λ i r at. λ change failed known. absurd (true_and_false (register.succeeded (op_of r)) (stranger_success r) failed)));
 }
 
 -- ---- what the server holds
@@ -191,8 +228,8 @@ asked_is : (book : Book) (a : Asked) (o : Op) → o.word ≡ asked_word a → Is
 asked_is book (asked.Remove r) o e = e
 asked_is book (asked.Rename r) o e = e
 
-held_value : (book : Book) (w : World) (qs : List Queue) → IsKept book w.core qs → HaveStored book.moments w.core → (i : ℕ) (c : FileChange) → slice_get w.core.server.waiting i ≡ Some c → HoldsValue book w c
-held_value book w qs kept stored i c at = by c.what refl (h.pending there.0 c there.1)
+held_value : (book : Book) (w : World) (qs : List Queue) → (kept : IsKept book w.core qs) → HaveStored book.moments w.core → (i : ℕ) (c : FileChange) → (at : slice_get w.core.server.waiting i ≡ Some c) → is_raw (kept.home i c at).0 ≡ false → HoldsValue book w c
+held_value book w qs kept stored i c at owned = by c.what refl (h.pending there.0 c there.1)
   where
     home : (x : Session) × (numbered w.core.sessions c.session ≡ Some x) × (x.hung ≡ false)
     home = kept.home i c at
@@ -201,7 +238,7 @@ held_value book w qs kept stored i c at = by c.what refl (h.pending there.0 c th
     q = also_numbered w.core.sessions qs c.session home.0 kept.made.1 home.1
 
     h : IsSession book w.core.seats w.core.server c.session home.0 q.0
-    h = kept.sessions c.session home.0 q.0 home.1 q.1
+    h = kept.sessions c.session home.0 q.0 home.1 q.1 owned
 
     there : (j : ℕ) × (slice_get (own c.session w.core.server.waiting) j ≡ Some c)
     there = own_there w.core.server.waiting i c at
@@ -245,12 +282,23 @@ held_value book w qs kept stored i c at = by c.what refl (h.pending there.0 c th
           closing = p.known;
         }
 
+-- of a session one change waits at most
+pub one_waits : {book : Book} {k : Core} {qs : List Queue} → IsKept book k qs → (n : ℕ) (x : Session) → numbered k.sessions n ≡ Some x → length (own n k.server.waiting) ≤ 1
+one_waits {k = k} {qs = qs} kept n x at =
+    let q = also_numbered k.sessions qs n x kept.made.1 at in
+    elim (raw_or_owned x) [
+      | inl raw ↦ (kept.strangers n x q.0 at q.1 raw).single
+      | inr owned ↦ (let le = (kept.sessions n x q.0 at q.1 owned).single in omega (arith, le))
+    ]
+
 pub holds_values : (book : Book) (w : World) (qs : List Queue) → IsKept book w.core qs → HaveStored book.moments w.core → HoldsValues book w
 holds_values book w qs kept stored = record {
-  values = λ i c at. held_value book w qs kept stored i c at;
+  values = λ i c at. (let home = kept.home i c at in elim (raw_or_owned home.0) [
+    | inl raw ↦ inr (home.0, home.1, raw, home.2)
+    | inr owned ↦ inl (held_value book w qs kept stored i c at owned)
+  ]);
   single = λ i j c d a b same.
       let home = kept.home i c a in
-      let q = also_numbered w.core.sessions qs c.session home.0 kept.made.1 home.1 in
-      let le = (kept.sessions c.session home.0 q.0 home.1 q.1).single in
+      let le = one_waits kept c.session home.0 home.1 in
       two_own c.session w.core.server.waiting i j c d a b refl (sym same) (omega (arith, le));
 }

@@ -18,7 +18,7 @@ use Rattle.trace_replay.specs.declared.turn.Turn.TheVariants as turn
 use Rattle.trace_replay.specs.Timed.{Timed, Times, no_times, down_timing, pass_timing, timing_of, read_by, times_with, with_times, times_if, timed_by, timed_turn, timed_start, accepted_from}
 use Rattle.trace_replay.specs.Readings.{said, said_by, owners_by, timings_from, timings_of}
 use Rattle.trace_replay.specs.Run.{refused, place_for, file_asks, directory_asks}
-use Rattle.kept_promise.proofs.Common.{nat_le, nat_lt, lines_of, Part, line_of, Line, LineFault, Grammar, Refused, Turn, Core, Seat, numbered, World, start, line_most, sessions_most, asks_if, sized, joins_if, joins_within, event_asks, asks_at, asks, asked, asked_by, turned, ended, in_header, run_from, run, owners_of, accepted, KeepsClocks}
+use Rattle.kept_promise.proofs.Common.{nat_le, nat_lt, lines_of, Part, line_of, Line, LineFault, Grammar, Refused, Turn, Core, Seat, numbered, World, start, line_most, sessions_most, asks_if, sized, joins_if, joins_within, event_asks, asks_at, asks, asked, asked_by, turned, ended, in_header, run_from, run, owners_of, accepted, KeepsClocks, raw_joins_within}
 use Rattle.kept_promise.proofs.Statements.{ClocksKeepTheRule}
 use Rattle.kept_promise.proofs.lemmas.Owners.{stage_after, owners_after, MayTurn, turned_to}
 use Rattle.trace_replay.proofs.lemmas.Warming.{warms_turn, warm_taken}
@@ -122,6 +122,10 @@ joins_on os standing c (Some seat) s l t e h = by seat.client.linked (nat_lt sta
     by false true e = goes os s l (turn.Join c) t e h
     by false false e = refused_line _ t e
 
+raw_joins_on : (os : List ℕ) (b : Bool) (s : Stage) (l : Line) (t : Turn) → raw_joins_within b ≡ asking t → GoesOn os s l turn.RawJoin → GoesOn os s l t
+raw_joins_on os true s l t e h = goes os s l turn.RawJoin t e h
+raw_joins_on os false s l t e h = refused_line _ t e
+
 -- an event, where events may come
 event_on : (os : List ℕ) (s : Stage) (k : Core) (l : Line) (t : Turn) → ((xs : List Timing) → AreReadings xs → AreFrom s xs) → event_asks k l ≡ asking t → GoesOn os s l t
 event_on os s k (line.Join c r at) t here e = joins_on os _ c (numbered k.seats c) s (line.Join c r at) t e (record { from = λ xs h. here (timing.Reads (reads.Both at c r) ∷ xs) (one_more _ xs h); owners = refl })
@@ -131,6 +135,8 @@ event_on os s k (line.Down n a r) t here e = goes_if os _ s (line.Down n a r) (t
 event_on os s k (line.Settle at) t here e = goes os s (line.Settle at) (turn.Settle at) t e (record { from = λ xs h. here (timing.Reads (reads.Server at) ∷ xs) (one_more _ xs h); owners = refl })
 event_on os s k (line.Cut c r) t here e = goes_if os _ s (line.Cut c r) (turn.Cut c) t e (record { from = λ xs h. here (timing.Reads (reads.Client c r) ∷ xs) (one_more _ xs h); owners = refl })
 event_on os s k (line.Hang n at) t here e = goes_if os _ s (line.Hang n at) (turn.Hang n) t e (record { from = λ xs h. here (timing.Reads (reads.Server at) ∷ xs) (one_more _ xs h); owners = refl })
+event_on os s k (line.RawJoin at) t here e = raw_joins_on os _ s (line.RawJoin at) t e (record { from = λ xs h. here (timing.Reads (reads.Server at) ∷ xs) (one_more _ xs h); owners = refl })
+event_on os s k (line.Raw n bytes) t here e = goes_if os _ s (line.Raw n bytes) (turn.Raw n bytes) t e (record { from = λ xs h. here xs h; owners = refl })
 event_on os s k (line.Pass n rounds at r) t here e = goes_if os _ s (line.Pass n rounds at r) (turn.Pass n rounds at r) t e (record { from = λ xs h. here (said (pass_timing at r (numbered os n)) ++ xs) (pass_more at r (numbered os n) xs h); owners = refl })
 event_on os s k (line.Forge u key file offset count) t here e = goes_if os _ s (line.Forge u key file offset count) (turn.Adjust (adjustment.Forge u key (record { file = file; offset = offset; count = count }))) t e (record { from = λ xs h. here xs h; owners = refl })
 event_on os s k (line.Clear u) t here e = goes_if os _ s (line.Clear u) (turn.Adjust (adjustment.Clear u)) t e (record { from = λ xs h. here xs h; owners = refl })

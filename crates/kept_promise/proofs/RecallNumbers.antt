@@ -1,12 +1,10 @@
 -- A run carries that the RECALLs which go down a session are numbered from 1 on, in order; so a session that had all its numbers was sent as many RECALLs.
-use Rattle.std.proofs.Common.{◌≡◌, ◌⊎◌, inl, inr, ℕ, zero, suc, ◌+◌, ◌<◌, ◌≤◌, List, [], ◌∷◌, ◌++◌, length, map, Option, Some, None, Result, Ok, Err, Bool, true, false, refl, sym, ap, ◌∙◌, subst, arith, append-nil, length-append}
+use Rattle.std.proofs.Common.{◌≡◌, ◌⊎◌, inl, inr, ℕ, zero, suc, ◌+◌, ◌<◌, ◌≤◌, List, [], ◌∷◌, ◌++◌, length, map, Option, Some, None, Bool, true, false, refl, sym, ap, ◌∙◌, subst, arith, append-nil, length-append}
 use Rattle.std.specs.Prelude.{◌==◌, ◌||◌, not, cond, filter, nat_lt, if◌then◌else◌}
 use Rattle.std.specs.List.{list_any, AllByRecursion}
 use Rattle.std.proofs.lemmas.Bool.Decides.{nat_tests}
 use Rattle.std.proofs.lemmas.List.{append_assoc}
 use Rattle.limits.specs.declared.TheConstants.{XIDS_MOST}
-use Rattle.wire.specs.Parse.{parse_of}
-use Rattle.wire.specs.declared.fault.WireFault.{WireFault}
 use Rattle.wire.specs.declared.message.Body.{Body}
 use Rattle.wire.specs.declared.message.Message.{Message}
 use Rattle.wire.specs.declared.message.Message.TheVariants as message
@@ -21,7 +19,7 @@ use Rattle.server_core.specs.Closing.{at as at_reading, makes_change, settles_by
 use Rattle.server_core.specs.Closing as closing
 use Rattle.server_core.specs.Recalling.{recall_sent, recalls_for}
 use Rattle.server_core.specs.State.{State, FileChange, stands}
-use Rattle.server_core.specs.Step.{called_under, got_if_under, hangs_if as server_hangs_if}
+use Rattle.server_core.specs.Step.{called_under, connect, got_if_under, hangs_if as server_hangs_if}
 use Rattle.server_core.specs.declared.change.Wanted.{Wanted}
 use Rattle.server_core.specs.declared.change.Wanted.TheVariants as wanted
 use Rattle.server_core.specs.declared.event.Sent.{Sent}
@@ -30,7 +28,7 @@ use Rattle.trace_ends.specs.Core.{Loss.Up_of, quiet as quiet_step}
 use Rattle.trace_replay.specs.Chained.{sent_to}
 use Rattle.trace_replay.specs.Numbered.{numbers_among, CountOn}
 use Rattle.trace_replay.specs.PendingChanges.{recall_numbers}
-use Rattle.kept_promise.proofs.Common.{Core, CoreStep, Session, Event, Event.Serves, happens, serves, serves_if, numbered, with_numbered, server_waits, Moment, Tree}
+use Rattle.kept_promise.proofs.Common.{Core, CoreStep, Session, Event, happens, numbered, with_numbered, Moment, Tree}
 use Rattle.kept_promise.proofs.Happens.{what_happens}
 use Rattle.kept_promise.proofs.LeaseTurns.{NoCalls, Taken, stays, grants, comes_to, called_taken}
 use Rattle.kept_promise.proofs.Lists.{same_or_not, within}
@@ -351,25 +349,23 @@ event_goes : (k : Core) (e : Event) → length k.sessions ≡ k.server.sessions_
 event_goes k e made n = what_happens k e (λ t. EventGo k t n) (record {
   nothing = same_go k _ n refl refl;
   idle = same_go k _ n refl refl;
-  joins = λ c seat is. record {
-    counts = tt;
-    none = λ down. refl;
-    was = λ lives. elim lives [
-      | inl up ↦ elim (any_join n (k.server.sessions_made + 1) k.server.sessions up) [ inl old ↦ inl old | inr new ↦ inr (omega (arith, new)) ]
-      | inr late ↦ inr (omega (arith, late))
-    ];
-    last = λ up. omega arith;
-    spent = λ up z. inl z;
-  };
+  joins = λ c seat is. record { counts = tt; none = λ down. refl; was = joined; last = λ up. omega arith; spent = λ up z. inl z };
   refuses = λ c seat is. same_go k _ n refl refl;
   does = λ c now d seat is. same_go k _ n refl refl;
-  takes = λ m now bytes x z is at read. go_of k _ n (got_numbers_to k.server (stands k.server m) m now z n) (got_sessions k.server (stands k.server m) m now z);
+  takes = λ m now bytes x z is at unhung read. go_of k _ n (got_numbers_to k.server (stands k.server m) m now z n) (got_sessions k.server (stands k.server m) m now z);
   hears = λ m now bytes owner seat is. same_go k _ n refl refl;
   settles = λ now is. go_of k _ n (settle_numbers k.server now n) (settle_sessions k.server now);
   cuts = λ c seat is. same_go k _ n refl refl;
-  hangs = λ m x is at. hung m x at (stands k.server m);
+  closes = λ m now bytes x is at unhung. hung m x at (stands k.server m);
+  hangs = λ m x is at unhung. hung m x at (stands k.server m);
+  raw_joins = λ is. record { counts = tt; none = λ down. refl; was = joined; last = λ up. omega arith; spent = λ up z. inl z };
+  raw_refuses = λ is. same_go k _ n refl refl;
 })
   where
+    joined : Lives (connect k.server true).0 n → Lives k.server n
+    joined (inl up) = elim (any_join n (k.server.sessions_made + 1) k.server.sessions up) [ inl old ↦ inl old | inr new ↦ inr (omega (arith, new)) ]
+    joined (inr late) = inr (omega (arith, late))
+
     hung : (m : ℕ) (x : Session) → numbered k.sessions m ≡ Some x → (t : Bool) → EventGo k (record (quiet_step k) { core = record k { steps = k.steps + 1; server = (server_hangs_if k.server t m).0; sessions = with_numbered k.sessions m (record x { hung = true }) }; loss = Up_of m }) n
     hung m x at false = record { counts = tt; none = λ down. refl; was = λ lives. lives; last = λ up. omega arith; spent = λ up z. inl z }
     hung m x at true = record {
@@ -429,18 +425,3 @@ first_numbers tree header = record { count = λ n. tt; last = λ n up. refl; spe
   where
     no : false ≡ true → ⊥
     no e = cc
-
--- a session stands through what the server takes
-pub serves_lives : (k : Core) (e : Event) (n now : ℕ) (bytes : List ℕ) → e ≡ Serves n now bytes → (i : ℕ) → stands k.server i ≡ true → Lives (happens k e).core.server i
-serves_lives k e n now bytes is i up = subst (λ (z : Event). Lives (happens k z).core.server i) (sym is) (inl (ap (λ (ks : List ℕ). list_any (λ k. k == i) ks) same ∙ up))
-  where
-    read_ : (x : Session) (r : Result Message WireFault) → (serves_if k n now x r).core.server.sessions ≡ k.server.sessions
-    read_ x (Ok m) = (got_sessions k.server (stands k.server n) n now m).0
-    read_ x (Err e) = refl
-
-    same : (happens k (Serves n now bytes)).core.server.sessions ≡ k.server.sessions
-    same = by (numbered k.sessions n)
-      where
-        by : (o : Option Session) → (serves k n now bytes o).core.server.sessions ≡ k.server.sessions
-        by None = refl
-        by (Some x) = read_ x (parse_of (server_waits k n) bytes)

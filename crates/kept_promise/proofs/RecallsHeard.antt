@@ -22,7 +22,7 @@ cached_without book es (Some file) h = cached_unnoted book es file h
 -- the client is as it was, but for its clock and a note
 leads_recalled : (book : Book) (k : Core) (qs : List Queue) (owner now xid : ℕ) (seat : Seat) (o : Option ℕ) → xid < 4294967296 → IsKept book k qs → numbered k.seats owner ≡ Some seat → Leads book qs (recalled_step k owner now seat (cache_without seat.client.cache o) xid)
 leads_recalled book k qs owner now xid seat o small kept here = record {
-  sends = record { replies = xid ∷ []; replies_fit = (small, tt); asks = []; up_is = refl; recalls = []; recalls_fit = tt; tolds = []; down_is = refl };
+  sends = record { replies = xid ∷ []; replies_fit = (small, tt); asks = []; up_is = refl; strays = []; strays_cut = tt; recalls = []; recalls_fit = tt; tolds = []; down_is = refl };
   more = onward book 1 book.ops;
   moments = refl;
   opening = refl;

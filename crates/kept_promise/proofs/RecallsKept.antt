@@ -53,6 +53,7 @@ use Rattle.lease_law.specs.Claims.{Way, recall_message, answered_by, called_by}
 use Rattle.lease_law.specs.Orderly.{IsUpTo, AreNumbered, sent_on, behind_with}
 use Rattle.lease_law.proofs.lemmas.Claiming.{behind_none}
 use Rattle.lease_law.proofs.lemmas.Asking.{AreXids, asks_numbered, asks_unsent, sent_cons, behind_join}
+use Rattle.kept_promise.proofs.Lists.{nothing_there}
 
 -- ---- what is said of them
 
@@ -101,9 +102,6 @@ AreRecalls calls = AllByRecursion (λ c. OnlyRecalls c.waits) calls
 
 no : {A : Type 0} → true ≡ false → A
 no e = absurd cc
-
-none : {A : Type 0} (x : ℕ) → ◌≡◌ {A = Option ℕ} None (Some x) → A
-none x e = absurd cc
 
 pub all_map : {A : Type 0} (P Q : A → Type 0) (xs : List A) → ((x : A) → P x → Q x) → AllByRecursion P xs → AllByRecursion Q xs
 all_map P Q [] f h = tt
@@ -251,6 +249,15 @@ recalls_at (c ∷ cs) s h = by (is_at s c) (recalls_at cs s h.1)
     by true later = h.0
     by false later = later
 
+-- what waits under an xid is a RECALL
+pub recall_at : (waits : List Pending) (x : ℕ) (p : Program) → OnlyRecalls waits → waiting x waits ≡ Some p → p ≡ recall_program
+recall_at [] x p h e = nothing_there p e
+recall_at (w ∷ ws) x p h e = by (w.xid == x) (recall_at ws x p h.1) e
+  where
+    by : (b : Bool) → (waiting x ws ≡ Some p → p ≡ recall_program) → (if b then Some w.program else waiting x ws) ≡ Some p → p ≡ recall_program
+    by true later e = sym (some_is w.program p e) ∙ h.0
+    by false later e = later e
+
 -- ---- a session is asked for a lease, or not
 
 recalled_own : (c : BackCall) (o : Option ℕ) → (recalled_if c o).session ≡ c.session
@@ -300,7 +307,7 @@ drawn last x e = by (nat_lt last XIDS_MOST) e
   where
     by : (b : Bool) → (if b then Some (last + 1) else None) ≡ Some x → x ≡ last + 1
     by true e = some_is x (last + 1) (sym e)
-    by false e = none x e
+    by false e = nothing_there x e
 
 -- no answer is to what is asked for just now
 fresh_beside : (last x : ℕ) (ups : List Message) (d : Message) → x ≡ last + 1 → called_by d ≡ Some x → AllByRecursion (λ m. IsUpTo last (answered_by m)) ups → AllByRecursion (λ u. IsBeside u d) ups
@@ -538,7 +545,7 @@ plain_beside u n [] p = tt
 plain_beside u n (m ∷ ms) p = by (m.session == n) (plain_beside u n ms p.1)
   where
     by : (b : Bool) → AllByRecursion (IsBeside u) (sent_on n ms) → AllByRecursion (IsBeside u) (map (λ (x : Sent). x.message) (cond b (m ∷ filter (λ x. x.session == n) ms) (filter (λ x. x.session == n) ms)))
-    by true later = ((λ x a b. none x (sym p.0 ∙ b)), later)
+    by true later = ((λ x a b. nothing_there x (sym p.0 ∙ b)), later)
     by false later = later
 
 beside_all : (ups downs more : List Message) → AllBeside ups downs → AllByRecursion (λ u. AllByRecursion (IsBeside u) more) ups → AllBeside ups (downs ++ more)
@@ -618,6 +625,14 @@ pub taken_awaited : (s : State) (n : ℕ) (m : Message) (us downs : List Message
 taken_awaited s n m us downs h = record { waited = λ q. (let w = h.waited q in record { answers = w.answers.1; calls = w.calls }); once = h.once.1; beside = h.beside.1 }
 
 -- an answer is taken: its xid is used up
+pub used_recalls : (n xid : ℕ) (calls : List BackCall) → AreRecalls calls → AreRecalls (answered calls n xid)
+used_recalls n xid [] h = tt
+used_recalls n xid (c ∷ cs) h = (by (is_at n c), used_recalls n xid cs h.1)
+  where
+    by : (b : Bool) → OnlyRecalls (let d : BackCall = if b then record c { waits = filter (λ p. not (p.xid == xid)) c.waits } else c in d.waits)
+    by true = all_kept (λ p. p.program ≡ recall_program) (λ p. not (p.xid == xid)) c.waits h.0
+    by false = h.0
+
 module _ (s : State) (n xid now : ℕ) where
   abbrev stepped : State × ServerStep
   stepped = server_step_under s false (event.Got n (recall_answer xid) now)
@@ -643,16 +658,8 @@ module _ (s : State) (n xid now : ℕ) where
       by true e = answers e
       by false e = other e
 
-  used_recalls : (calls : List BackCall) → AreRecalls calls → AreRecalls (answered calls n xid)
-  used_recalls [] h = tt
-  used_recalls (c ∷ cs) h = (by (is_at n c), used_recalls cs h.1)
-    where
-      by : (b : Bool) → OnlyRecalls (let d : BackCall = if b then record c { waits = filter (λ p. not (p.xid == xid)) c.waits } else c in d.waits)
-      by true = all_kept (λ p. p.program ≡ recall_program) (λ p. not (p.xid == xid)) c.waits h.0
-      by false = h.0
-
   pub answered_recalls : AreRecalls s.leasing.calls → AreRecalls stepped.0.leasing.calls
-  answered_recalls h = calls_by AreRecalls (λ e. used_recalls s.leasing.calls h) (λ e. h)
+  answered_recalls h = calls_by AreRecalls (λ e. used_recalls n xid s.leasing.calls h) (λ e. h)
 
   -- on that session all others are still waited for
   used_waits : (o : Option ℕ) → (o ≡ Some xid → ⊥) → (c : BackCall) → IsWaited c.waits o → IsWaited (used_by n xid c).waits o
@@ -662,7 +669,7 @@ module _ (s : State) (n xid now : ℕ) where
       by true = waited_others xid c.waits o apart h
       by false = h
 
-  used_apart : (k : ℕ) → (n ≡ k → ⊥) → call_at (answered s.leasing.calls n xid) k ≡ call_at s.leasing.calls k
+  pub used_apart : (k : ℕ) → (n ≡ k → ⊥) → call_at (answered s.leasing.calls n xid) k ≡ call_at s.leasing.calls k
   used_apart k apart = at_used s.leasing.calls n xid k ∙ by (is_at n (call_at s.leasing.calls k)) refl
     where
       by : (b : Bool) → is_at n (call_at s.leasing.calls k) ≡ b → (if b then record (call_at s.leasing.calls k) { waits = filter (λ p. not (p.xid == xid)) (call_at s.leasing.calls k).waits } else call_at s.leasing.calls k) ≡ call_at s.leasing.calls k

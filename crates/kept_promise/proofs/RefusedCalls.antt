@@ -159,11 +159,14 @@ all_told k e = what_happens k e (IsTold k e) (record {
   joins = λ c seat is. quietly k e _ tt;
   refuses = λ c seat is. quietly k e _ tt;
   does = λ c now d seat is. quietly k e _ tt;
-  takes = λ n now bytes x z is there read. record { by = λ m y a s refused c. subst (λ (w : Event). TreeTells (moment k w) m y a) (sym is) (got_by n now bytes z read (stands k.server n) m y a s refused c) };
+  takes = λ n now bytes x z is there unhung read. record { by = λ m y a s refused c. subst (λ (w : Event). TreeTells (moment k w) m y a) (sym is) (got_by n now bytes z read (stands k.server n) m y a s refused c) };
   hears = λ n now bytes owner seat is. quietly k e _ tt;
   settles = λ now is. record { by = λ m y a s refused c. subst (λ (w : Event). TreeTells (moment k w) m y a) (sym is) (settled now (ready_by k.server now) refl m y a s refused c) };
   cuts = λ c seat is. quietly k e _ tt;
-  hangs = λ n x is there. quietly k e _ tt;
+  hangs = λ n x is there unhung. quietly k e _ tt;
+  closes = λ n now bytes x is there unhung. quietly k e _ tt;
+  raw_joins = λ is. quietly k e _ tt;
+  raw_refuses = λ is. quietly k e _ tt;
 })
   where
     called_by : (n now : ℕ) (bytes : List ℕ) (xid : ℕ) (b : Body) → parse_of server_waiting bytes ≡ Ok (message.Call xid b) → (m y : ℕ) (a : Nfs) (s : Status) → refusal_of a ≡ Some s → Contains (called (at k.server now) n xid b).1.send (told_on m y a) → TreeTells (moment k (Serves n now bytes)) m y a

@@ -1,5 +1,5 @@
 -- Steps in which no session turns: none changes, or a client's open files alone do.
-use Rattle.std.proofs.Common.{inl, inr, ◌≡◌, ℕ, ◌<◌, ◌≤◌, List, length, Option, Some, None, true, false, refl, sym, ap, ◌∙◌, subst}
+use Rattle.std.proofs.Common.{inl, inr, ◌≡◌, ℕ, ◌<◌, ◌≤◌, List, length, Option, Some, None, true, false, refl, sym, ap, ◌∙◌, subst, arith}
 use Rattle.server_core.specs.State as server
 use Rattle.client_state.specs.State as client
 use Rattle.register_model.specs.declared.op.Outcome.TheVariants as told
@@ -7,8 +7,8 @@ use Rattle.kept_promise.proofs.Common.{slice_get, Temp, key_of, FileChange, Loca
 use Rattle.kept_promise.proofs.Lists.{some_is, nothing_there, same_or_not}
 use Rattle.kept_promise.proofs.Messages.{Job, job, AllAsks, IsCommit, TempUnder, WaitsFor}
 use Rattle.kept_promise.proofs.History.{Goes}
-use Rattle.kept_promise.proofs.Later.{SameView, Stays, session_later, seat_later}
-use Rattle.kept_promise.proofs.Turns.{Around, turned_core}
+use Rattle.kept_promise.proofs.Later.{SameView, Stays, session_later, seat_later, raw_later}
+use Rattle.kept_promise.proofs.Turns.{Around, turned_core, came_later}
 use Rattle.kept_promise.proofs.Shelf.{IsShelf}
 use Rattle.kept_promise.proofs.Ordered.{orderly_free, none_free}
 use Rattle.kept_promise.proofs.Facts.{IsTalk, IsSession, IsSeat, IsServer, IsKept}
@@ -32,9 +32,12 @@ kept_rest book more k qs r goes server made view home running journal shelf h = 
   journal = journal;
   entries = refl;
   sound = goes.sound;
+  raws = goes.raws ∙ h.raws;
+  came = let n = goes.grows.passes in let s = h.steps in came_later k.came (length k.sessions) (length k.sessions) k.steps more.steps refl (omega (arith, n, s)) h.came;
   server = server;
   made = (h.made.0 ∙ sym made, h.made.1);
-  sessions = λ n x q at is. let old = h.sessions n x q at is in session_later book more None None k.seats k.seats k.server r n x q old.seat old.seat goes.grows old.owner old.owner (λ e. refl) (spares_none x.closing) (view n) old;
+  sessions = λ n x q at is own. let old = h.sessions n x q at is own in session_later book more None None k.seats k.seats k.server r n x q old.seat old.seat goes.grows old.owner old.owner (λ e. refl) (spares_none x.closing) (view n) old;
+  strangers = λ n x q at is raw. raw_later k.server r n x q (view n) (h.strangers n x q at is raw);
   seats = λ i e at. seat_later book more None None k.sessions k.sessions i e goes.grows (stays_same k.sessions i) (λ p o f there mine. nothing_there p f) (h.seats i e at);
   running = running;
   closings = h.closings;
@@ -86,9 +89,12 @@ kept_opened book k qs seats i c o free was around opened h = record {
   journal = h.journal;
   entries = h.entries;
   sound = h.sound;
+  raws = h.raws;
+  came = h.came;
   server = h.server;
   made = h.made;
-  sessions = λ n x q at is. let old = h.sessions n x q at is in elim (same_or_not x.owner i) [
+  strangers = h.strangers;
+  sessions = λ n x q at is own. let old = h.sessions n x q at is own in elim (same_or_not x.owner i) [
     | inl mine ↦ session_opened book k.seats seats k.server n x q c o free (ap (numbered k.seats) mine ∙ was) (ap (numbered seats) mine ∙ around.there) old
     | inr away ↦ session_else n x q old (around.others x.owner away ∙ old.owner)
   ];

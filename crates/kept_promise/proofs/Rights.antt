@@ -8,6 +8,8 @@ use Rattle.register_model.specs.declared.op.Outcome.TheVariants as told
 use Rattle.register_model.specs.declared.op.Word.TheVariants as words
 use Rattle.tree_reading.specs.declared.entry.EntryKind.{EntryKind}
 use Rattle.register_model.specs.Register.{succeeded, IsFit}
+use Rattle.register_model.specs.declared.raw.Raw.{Raw}
+use Rattle.register_model.specs.Raw.{op_of}
 use Rattle.xdr_codec.specs.Handle.{handle_bytes}
 use Rattle.hash_calls.specs.declared.message.Lb.TheVariants as lb
 use Rattle.wire.specs.declared.message.Body.TheVariants as body
@@ -246,10 +248,18 @@ kind_changes _ k h = absurd h
 abbrev pub IsFitted : Book → Op → Type 0
 IsFitted book o = changes o.word ≡ true → (p : ℕ) → o.point ≡ Some p → (1 < o.file) × IsFit o.word (value_at book o.file p)
 
+-- A change of a session that is no client's was made by now, once it was asked for, of a file that was what it must be.
+pub record IsStranger (book : Book) (r : Raw) : Type 0 where
+  pub order : r.begin ≤ r.point
+  pub past : r.point ≤ book.steps
+  pub positive : 1 < r.file
+  pub fit : IsFit (op_of r).word (value_at book r.file r.point)
+
 -- what holds of all operations together
 pub record IsSound (book : Book) : Type 0 where
   pub rights : (k : ℕ) (o : Op) → slice_get book.ops k ≡ Some o → IsRight book o
   pub fits : (k : ℕ) (o : Op) → slice_get book.ops k ≡ Some o → IsFitted book o
+  pub strangers : (k : ℕ) (r : Raw) → slice_get book.raws k ≡ Some r → IsStranger book r
   pub journal : HasJournal book
   -- no entry is of a step to come
   pub past : (i p : ℕ) → slice_get book.entries i ≡ Some p → (0 < p) × (p ≤ book.steps)

@@ -7,7 +7,7 @@ use Rattle.trace_replay.specs.Run.{place_for, file_asks, directory_asks}
 use Rattle.trace_replay.specs.declared.stage.Stage.{Stage}
 use Rattle.trace_replay.specs.declared.stage.Stage.TheVariants as stage
 use Rattle.trace_replay.specs.declared.turn.Turn.TheVariants as turn
-use Rattle.kept_promise.proofs.Common.{nat_lt, nat_le, Part, Line, LineFault, Grammar, Turn, Core, Seat, numbered, World, line_most, sessions_most, asks_if, sized, joins_if, joins_within, event_asks, asks_at, asks, asks_within, asked}
+use Rattle.kept_promise.proofs.Common.{nat_lt, nat_le, Part, Line, LineFault, Grammar, Turn, Core, Seat, numbered, World, line_most, sessions_most, asks_if, sized, joins_if, joins_within, event_asks, asks_at, asks, asks_within, asked, raw_joins_within}
 use Rattle.trace_replay.proofs.lemmas.Warming.{warms_turn, warm_taken}
 use Rattle.kept_promise.proofs.RunsResults.{asking, refused_line}
 
@@ -27,6 +27,8 @@ turn_of dir (line.Down n a r) = turn.Down n a r
 turn_of dir (line.Settle at) = turn.Settle at
 turn_of dir (line.Cut m r) = turn.Cut m
 turn_of dir (line.Hang n at) = turn.Hang n
+turn_of dir (line.RawJoin at) = turn.RawJoin
+turn_of dir (line.Raw n bytes) = turn.Raw n bytes
 turn_of dir (line.Pass n rounds at r) = turn.Pass n rounds at r
 turn_of dir (line.Forge w key file offset count) = turn.Adjust (adjustment.Forge w key (record { file = file; offset = offset; count = count }))
 turn_of dir (line.Clear w) = turn.Adjust (adjustment.Clear w)
@@ -49,6 +51,10 @@ joins_turn standing client (Some seat) t e = by seat.client.linked (nat_lt stand
     by false true e = turn_is (turn.Join client) t e
     by false false e = refused_line _ t e
 
+raw_joins_turn : (b : Bool) (t : Turn) → raw_joins_within b ≡ asking t → t ≡ turn.RawJoin
+raw_joins_turn true t e = turn_is turn.RawJoin t e
+raw_joins_turn false t e = refused_line _ t e
+
 event_turn : (k : Core) (l : Line) (t : Turn) → event_asks k l ≡ asking t → t ≡ turn_of 0 l
 event_turn k (line.Join m r at) t e = joins_turn _ m (numbered k.seats m) t e
 event_turn k (line.Do m r d) t e = goes_if _ (turn.Do m r d) t e
@@ -57,6 +63,8 @@ event_turn k (line.Down n a r) t e = goes_if _ (turn.Down n a r) t e
 event_turn k (line.Settle at) t e = turn_is (turn.Settle at) t e
 event_turn k (line.Cut m r) t e = goes_if _ (turn.Cut m) t e
 event_turn k (line.Hang n at) t e = goes_if _ (turn.Hang n) t e
+event_turn k (line.RawJoin at) t e = raw_joins_turn _ t e
+event_turn k (line.Raw n bytes) t e = goes_if _ (turn.Raw n bytes) t e
 event_turn k (line.Pass n rounds at r) t e = goes_if _ (turn.Pass n rounds at r) t e
 event_turn k (line.Forge w key file offset count) t e = goes_if _ (turn.Adjust (adjustment.Forge w key (record { file = file; offset = offset; count = count }))) t e
 event_turn k (line.Clear w) t e = goes_if _ (turn.Adjust (adjustment.Clear w)) t e

@@ -1,15 +1,16 @@
 -- What a run carries, event by event: what the laws of events give before and after each, and what is asked of any further fact.
-use Rattle.std.proofs.Common.{◌⊎◌, ◌≡◌, ℕ, ◌<◌, List, [], ◌∷◌, ◌++◌, length, Some, false, map, replicate}
+use Rattle.std.proofs.Common.{◌⊎◌, ◌≡◌, ℕ, ◌<◌, List, [], ◌∷◌, ◌++◌, length, Some, false, map, replicate, true}
 use Rattle.server_core.specs.State as server
 use Rattle.lease_law.specs.Claims.{recall_message}
 use Rattle.kept_promise.proofs.Statements.{IsSpoken}
-use Rattle.kept_promise.proofs.Common.{message_spell, Indexed, Opening, Core, Seat, new_seat, Session, Event, Event.Joins, Event.Does, Event.Serves, Event.Hears, Event.Settles, Event.Cuts, Event.Hangs, numbered, with_numbered, happens, World, Moment, Book, book_of, Ask, Told, Queue, ask_message, told_message, reply_message, Up, Down, up_message, down_message, Mix, queue_of, Tree}
+use Rattle.kept_promise.proofs.Common.{message_spell, Indexed, Opening, Core, Seat, new_seat, Session, Event, Event.Joins, Event.Does, Event.Serves, Event.Hears, Event.Settles, Event.Cuts, Event.Hangs, numbered, with_numbered, happens, World, Moment, Book, book_of, Ask, Told, Queue, ask_message, told_message, reply_message, Up, Down, up_message, down_message, Mix, queue_of, Tree, Event.RawJoins, is_raw}
 use Rattle.kept_promise.proofs.PathNames.{IsSmall}
 use Rattle.kept_promise.proofs.Facts.{IsKept}
 use Rattle.kept_promise.proofs.Adjusts.{SameSeats, adjusted_core}
 use Rattle.kept_promise.proofs.Rounds.{AreRested}
-use Rattle.kept_promise.proofs.Leading.{Sends, queues_after, mixes_after, IsNoted, CarryAll, KeptJoins, KeptHangs, KeptCuts, KeptSettles, KeptDoes, KeptServes, KeptReplies, KeptHears, KeptRecalls}
+use Rattle.kept_promise.proofs.Leading.{Sends, queues_after, mixes_after, IsNoted, CarryAll, KeptJoins, KeptHangs, KeptCuts, KeptSettles, KeptDoes, KeptServes, KeptReplies, KeptHears, KeptRecalls, KeptRawJoins, KeptRaws}
 use Rattle.kept_promise.proofs.Mixes.{AreMixes}
+use Rattle.kept_promise.proofs.SentBytes.{AreBytes}
 
 -- ---- the laws of events
 
@@ -23,12 +24,14 @@ pub record KeptLaws : Type 0 where
   pub replies : KeptReplies
   pub hears : KeptHears
   pub recalls : KeptRecalls
+  pub raw_joins : KeptRawJoins
+  pub raws : KeptRaws
 
 -- ---- the two ends and their book
 
 -- the book of two ends, with the moments of a whole run
 abbrev pub book_at : List Opening → Core → (all : List Moment) → Book
-book_at opening k all = record { lbfs = k.lbfs; opening = opening; ops = k.ops; steps = k.steps; journal = k.server.journal; entries = k.entries; moments = all }
+book_at opening k all = record { lbfs = k.lbfs; opening = opening; ops = k.ops; raws = k.raws; steps = k.steps; journal = k.server.journal; entries = k.entries; moments = all }
 
 -- what the header of a trace says: the server's term, how far clocks may drift apart, the version of LBFS that clients speak, and how many clients there are
 pub record Header : Type 0 where
@@ -50,6 +53,8 @@ first_core tree h = record {
   steps = 0;
   ops = [];
   entries = [];
+  came = [];
+  raws = [];
 }
 
 abbrev pub moment : Core → Event → Moment
@@ -65,10 +70,15 @@ FindsAsk qs n bytes mid = (q : Queue) × (a : Ask) × (us : List Ask) × (number
 pub record FindsReply (k : Core) (qs : List Queue) (n : ℕ) (bytes : List ℕ) (mid : List Queue) : Type 0 where
   pub session : Session
   pub at : numbered k.sessions n ≡ Some session
+  pub unhung : session.hung ≡ false
   pub xid : ℕ
   pub fits : xid < 4294967296
   pub bytes_is : bytes ≡ message_spell (reply_message xid)
   pub mid_is : mid ≡ qs
+
+-- or the session is no client's, and sends any bytes
+abbrev pub FindsRaw : Core → List Queue → (n : ℕ) → (bytes : List ℕ) → (mid : List Queue) → Type 0
+FindsRaw k qs n bytes mid = (x : Session) × (numbered k.sessions n ≡ Some x) × (is_raw x ≡ true) × (mid ≡ qs) × AreBytes bytes
 
 -- so it is with answers, and with RECALLs, which come to nobody who left
 abbrev pub FindsTold : List Queue → (n : ℕ) → (bytes : List ℕ) → (mid : List Queue) → Type 0
@@ -89,11 +99,12 @@ pub record FindsRecall (k : Core) (qs : List Queue) (n : ℕ) (bytes : List ℕ)
 abbrev pub Finds : Core → List Queue → Event → (mid : List Queue) → Type 0
 Finds k qs (Joins c) mid = (seat : Seat) × (numbered k.seats c ≡ Some seat) × (seat.client.linked ≡ false) × (k.server.sessions_made < 4294967295) × (length k.server.sessions < 64) × (mid ≡ qs)
 Finds k qs (Does c now d) mid = (seat : Seat) × (numbered k.seats c ≡ Some seat) × IsSmall d × (mid ≡ qs)
-Finds k qs (Serves n now bytes) mid = FindsAsk qs n bytes mid ⊎ FindsReply k qs n bytes mid
+Finds k qs (Serves n now bytes) mid = FindsAsk qs n bytes mid ⊎ (FindsReply k qs n bytes mid ⊎ FindsRaw k qs n bytes mid)
 Finds k qs (Hears n now bytes) mid = FindsTold qs n bytes mid ⊎ FindsRecall k qs n bytes mid
 Finds k qs (Settles now) mid = mid ≡ qs
 Finds k qs (Cuts c) mid = (seat : Seat) × (numbered k.seats c ≡ Some seat) × (mid ≡ qs)
 Finds k qs (Hangs n) mid = (x : Session) × (numbered k.sessions n ≡ Some x) × (mid ≡ qs)
+Finds k qs RawJoins mid = (k.server.sessions_made < 4294967295) × (length k.server.sessions < 64) × (mid ≡ qs)
 
 -- An event of a run, of which all moments are these: those that are past, this one, and the rest. `mid` are the queues without what is
 -- taken, and `after` those with what is sent.
@@ -111,14 +122,23 @@ pub record Step (all past rest : List Moment) (opening : List Opening) (k : Core
 
 -- ---- with RECALLs and their answers among what is on its way
 
+-- what comes up is the first of what is on its way
+abbrev pub FindsUp : List Mix → (n : ℕ) → (bytes : List ℕ) → (mid : List Mix) → Type 0
+FindsUp ms n bytes mid = (m : Mix) × (u : Up) × (us : List Up) × (numbered ms n ≡ Some m) × (m.ups ≡ u ∷ us) × (bytes ≡ message_spell (up_message u)) × (mid ≡ with_numbered ms n (record m { ups = us }))
+
+-- or the session is no client's
+abbrev pub FindsRawMix : Core → List Mix → (n : ℕ) → (bytes : List ℕ) → (mid : List Mix) → Type 0
+FindsRawMix k ms n bytes mid = (x : Session) × (numbered k.sessions n ≡ Some x) × (is_raw x ≡ true) × (mid ≡ ms) × AreBytes bytes
+
 abbrev pub FindsMix : Core → List Mix → Event → (mid : List Mix) → Type 0
-FindsMix k ms (Serves n now bytes) mid = (m : Mix) × (u : Up) × (us : List Up) × (numbered ms n ≡ Some m) × (m.ups ≡ u ∷ us) × (bytes ≡ message_spell (up_message u)) × (mid ≡ with_numbered ms n (record m { ups = us }))
+FindsMix k ms (Serves n now bytes) mid = FindsUp ms n bytes mid ⊎ FindsRawMix k ms n bytes mid
 FindsMix k ms (Hears n now bytes) mid = (m : Mix) × (d : Down) × (ds : List Down) × (numbered ms n ≡ Some m) × (m.downs ≡ d ∷ ds) × (bytes ≡ message_spell (down_message d)) × (mid ≡ with_numbered ms n (record m { downs = ds }))
 FindsMix k ms (Joins c) mid = Finds k (map queue_of ms) (Joins c) (map queue_of ms) × (mid ≡ ms)
 FindsMix k ms (Does c now d) mid = Finds k (map queue_of ms) (Does c now d) (map queue_of ms) × (mid ≡ ms)
 FindsMix k ms (Settles now) mid = Finds k (map queue_of ms) (Settles now) (map queue_of ms) × (mid ≡ ms)
 FindsMix k ms (Cuts c) mid = Finds k (map queue_of ms) (Cuts c) (map queue_of ms) × (mid ≡ ms)
 FindsMix k ms (Hangs n) mid = Finds k (map queue_of ms) (Hangs n) (map queue_of ms) × (mid ≡ ms)
+FindsMix k ms RawJoins mid = Finds k (map queue_of ms) RawJoins (map queue_of ms) × (mid ≡ ms)
 
 -- the same event
 pub record MixStep (all past rest : List Moment) (opening : List Opening) (k : Core) (ms : List Mix) (e : Event) (mid after : List Mix) : Type 0 where
@@ -172,6 +192,6 @@ pub record Stands (P : (all past : List Moment) → List Opening → Core → Li
   pub fit : AreMixes w.core.sessions mixes
   pub kept : IsKept (book_of w all) w.core (map queue_of mixes)
   pub early : IsKept (book_of w past) w.core (map queue_of mixes)
-  pub carry : CarryAll w.wires mixes
-  pub rested : AreRested w.wires
+  pub carry : CarryAll w.core.sessions w.wires mixes
+  pub rested : AreRested w
   pub more : P all past w.opening w.core mixes

@@ -2,16 +2,18 @@
 use Rattle.std.proofs.Common.{inl, inr, ◌≡◌, ℕ, zero, List, [], ◌∷◌, ◌++◌, append_assoc, refl, sym, ap, ◌∙◌, subst, arith, map}
 use Rattle.std.proofs.lemmas.Grind.{flat_map-append}
 use Rattle.trace_replay.specs.Trail.{hashed_in}
-use Rattle.kept_promise.proofs.Common.{Contains-append_left, Contains-append_right, Contains, flat_map, Entry, Op, Opening, Core, Seat, Event, Event.Joins, Event.Does, Event.Serves, Event.Hears, Event.Settles, Event.Cuts, Event.Hangs, CoreStep, with_numbered, happens, World, happened, Moment, hashed_of, hashed_by, Book, Queue, Mix, queue_of}
+use Rattle.kept_promise.proofs.Common.{Contains-append_left, Contains-append_right, Contains, flat_map, Entry, Op, Opening, Core, Seat, Event, Event.Joins, Event.Does, Event.Serves, Event.Hears, Event.Settles, Event.Cuts, Event.Hangs, CoreStep, with_numbered, happens, World, happened, Moment, hashed_of, hashed_by, Book, Queue, Mix, queue_of, Event.RawJoins}
 use Rattle.kept_promise.proofs.Lists.{some_is}
 use Rattle.kept_promise.proofs.Facts.{IsKept}
 use Rattle.kept_promise.proofs.Leading.{Sends, queues_after, mixes_after, IsNoted, Leads}
 use Rattle.kept_promise.proofs.Mixes.{AreMixes, after_plain}
-use Rattle.kept_promise.proofs.MixesFit.{finds_plain, mixes_fit}
+use Rattle.kept_promise.proofs.MixesFit.{finds_plain, mixes_fit, map_count}
 use Rattle.kept_promise.proofs.Routes.{routes_carry}
 use Rattle.kept_promise.proofs.Rounds.{rests_happened}
 use Rattle.kept_promise.proofs.Wider.{Wider, kept_wider, wider_more, wider_split, alike_of}
 use Rattle.kept_promise.proofs.RunsCarried.{KeptLaws, book_at, moment, Finds, FindsMix, CarriedMix, Stands}
+use Rattle.register_model.specs.declared.raw.Raw.{Raw}
+use Rattle.kept_promise.proofs.OwnersKept.{owners_stay, deaf_of, sent_owned}
 
 abbrev pub Fact : Type 1
 Fact = (all past : List Moment) → List Opening → Core → List Queue → Type 0
@@ -40,15 +42,16 @@ noted_of all past rest opening k e split = record {
 
 -- ---- the book that an event leads to is that of what it leaves
 
-same_book : (more : Book) (opening : List Opening) (k : Core) (all : List Moment) → more.lbfs ≡ k.lbfs → more.opening ≡ opening → more.ops ≡ k.ops → more.steps ≡ k.steps → more.journal ≡ k.server.journal → more.entries ≡ k.entries → more.moments ≡ all → more ≡ book_at opening k all
-same_book more opening k all v o p s j e m =
+same_book : (more : Book) (opening : List Opening) (k : Core) (all : List Moment) → more.lbfs ≡ k.lbfs → more.opening ≡ opening → more.ops ≡ k.ops → more.raws ≡ k.raws → more.steps ≡ k.steps → more.journal ≡ k.server.journal → more.entries ≡ k.entries → more.moments ≡ all → more ≡ book_at opening k all
+same_book more opening k all v o p r s j e m =
     ap (λ (z : ℕ). record more { lbfs = z }) v
     ∙ ap (λ (z : List Opening). record more { lbfs = k.lbfs; opening = z }) o
-    ∙ ap (λ (z : List Op). record { lbfs = k.lbfs; opening = opening; ops = z; steps = more.steps; journal = more.journal; entries = more.entries; moments = more.moments }) p
-    ∙ ap (λ (z : ℕ). record { lbfs = k.lbfs; opening = opening; ops = k.ops; steps = z; journal = more.journal; entries = more.entries; moments = more.moments }) s
-    ∙ ap (λ (z : List Entry). record { lbfs = k.lbfs; opening = opening; ops = k.ops; steps = k.steps; journal = z; entries = more.entries; moments = more.moments }) j
-    ∙ ap (λ (z : List ℕ). record { lbfs = k.lbfs; opening = opening; ops = k.ops; steps = k.steps; journal = k.server.journal; entries = z; moments = more.moments }) e
-    ∙ ap (λ (z : List Moment). record { lbfs = k.lbfs; opening = opening; ops = k.ops; steps = k.steps; journal = k.server.journal; entries = k.entries; moments = z }) m
+    ∙ ap (λ (z : List Op). record { lbfs = k.lbfs; opening = opening; ops = z; raws = more.raws; steps = more.steps; journal = more.journal; entries = more.entries; moments = more.moments }) p
+    ∙ ap (λ (z : List Raw). record { lbfs = k.lbfs; opening = opening; ops = k.ops; raws = z; steps = more.steps; journal = more.journal; entries = more.entries; moments = more.moments }) r
+    ∙ ap (λ (z : ℕ). record { lbfs = k.lbfs; opening = opening; ops = k.ops; raws = k.raws; steps = z; journal = more.journal; entries = more.entries; moments = more.moments }) s
+    ∙ ap (λ (z : List Entry). record { lbfs = k.lbfs; opening = opening; ops = k.ops; raws = k.raws; steps = k.steps; journal = z; entries = more.entries; moments = more.moments }) j
+    ∙ ap (λ (z : List ℕ). record { lbfs = k.lbfs; opening = opening; ops = k.ops; raws = k.raws; steps = k.steps; journal = k.server.journal; entries = z; moments = more.moments }) e
+    ∙ ap (λ (z : List Moment). record { lbfs = k.lbfs; opening = opening; ops = k.ops; raws = k.raws; steps = k.steps; journal = k.server.journal; entries = k.entries; moments = z }) m
 
 -- ---- any event
 
@@ -61,11 +64,12 @@ leads_of l book k qs (Serves n now bytes) mid kept (inl f) noted =
     subst (λ (z : List Queue). Leads book z (happens k (Serves n now bytes))) (sym f.6)
     (subst (λ (b : List ℕ). Leads book (with_numbered qs n (record f.0 { ups = f.2 })) (happens k (Serves n now b))) (sym is)
     (l.serves book k qs n now f.0 f.1 f.2 kept f.3 f.4 (subst (λ (b : List ℕ). IsNoted book k (Serves n now b)) is noted)))
-leads_of l book k qs (Serves n now bytes) mid kept (inr f) noted =
+leads_of l book k qs (Serves n now bytes) mid kept (inr (inl f)) noted =
     let is = f.bytes_is in
     subst (λ (z : List Queue). Leads book z (happens k (Serves n now bytes))) (sym f.mid_is)
     (subst (λ (b : List ℕ). Leads book qs (happens k (Serves n now b))) (sym is)
-    (l.replies book k qs n now f.xid f.fits kept (subst (λ (b : List ℕ). IsNoted book k (Serves n now b)) is noted)))
+    (l.replies book k qs n now f.xid f.session f.at f.unhung f.fits kept (subst (λ (b : List ℕ). IsNoted book k (Serves n now b)) is noted)))
+leads_of l book k qs (Serves n now bytes) mid kept (inr (inr f)) noted = subst (λ (z : List Queue). Leads book z (happens k (Serves n now bytes))) (sym f.3) (l.raws book k qs n now bytes f.0 f.1 f.2 f.4 kept noted)
 leads_of l book k qs (Hears n now bytes) mid kept (inl f) noted =
     let is = f.5 in
     subst (λ (z : List Queue). Leads book z (happens k (Hears n now bytes))) (sym f.6)
@@ -79,6 +83,7 @@ leads_of l book k qs (Hears n now bytes) mid kept (inr f) noted =
 leads_of l book k qs (Settles now) mid kept f noted = subst (λ (z : List Queue). Leads book z (happens k (Settles now))) (sym f) (l.settles book k qs now kept noted)
 leads_of l book k qs (Cuts c) mid kept f noted = subst (λ (z : List Queue). Leads book z (happens k (Cuts c))) (sym f.2) (l.cuts book k qs c kept noted)
 leads_of l book k qs (Hangs n) mid kept f noted = subst (λ (z : List Queue). Leads book z (happens k (Hangs n))) (sym f.2) (l.hangs book k qs n kept noted)
+leads_of l book k qs RawJoins mid kept f noted = subst (λ (z : List Queue). Leads book z (happens k RawJoins)) (sym f.2) (l.raw_joins book k qs kept noted f.0 f.1)
 
 -- what an event leaves, apart from the wires
 pub record Left (P : MixFact) (all past : List Moment) (opening : List Opening) (k : Core) (e : Event) (mid : List Mix) : Type 0 where
@@ -96,12 +101,12 @@ left_by P l carried all past rest opening k ms e mid split fit kept early found 
     let book = kept_wider (book_at opening k past) now k (map queue_of ms) (wider_more past (moment k e ∷ [])) (alike_of now all within kept.sound.alike) early in
     let finds : Finds k (map queue_of ms) e (map queue_of mid) = finds_plain k ms e mid kept.made.1 fit found in
     let lead = leads_of l (book_at opening k now) k (map queue_of ms) e (map queue_of mid) book finds (noted_of now past [] opening k e refl) in
-    let same : lead.more ≡ book_at opening t.core now = same_book lead.more opening t.core now lead.kept.lbfs lead.opening lead.kept.ops lead.kept.steps lead.kept.journal lead.kept.entries lead.moments in
+    let same : lead.more ≡ book_at opening t.core now = same_book lead.more opening t.core now lead.kept.lbfs lead.opening lead.kept.ops lead.kept.raws lead.kept.steps lead.kept.journal lead.kept.entries lead.moments in
     let after : List Mix = mixes_after mid t lead.sends in
     let plain : map queue_of after ≡ queues_after (map queue_of mid) t lead.sends = after_plain mid t lead.sends in
     let left_early = subst (λ (qs : List Queue). IsKept (book_at opening t.core now) t.core qs) (sym plain) (subst (λ (b : Book). IsKept b t.core (queues_after (map queue_of mid) t lead.sends)) same lead.kept) in
     let left = kept_wider (book_at opening t.core now) all t.core (map queue_of after) within kept.sound.alike left_early in
-    let left_fit : AreMixes t.core.sessions after = mixes_fit k ms e mid lead.sends kept.made.1 fit found in
+    let left_fit : AreMixes t.core.sessions after = mixes_fit k ms e mid lead.sends kept.made.1 fit (sent_owned kept e) found in
     record {
       sends = lead.sends;
       fit = left_fit;
@@ -127,7 +132,7 @@ event_stands P l carried all past rest w e h split found =
       fit = left.fit;
       kept = left.kept;
       early = left.early;
-      carry = routes_carry w.wires h.mixes (happens w.core e) left.sends h.carry;
+      carry = routes_carry w.core.sessions w.wires h.mixes (happens w.core e) left.sends (owners_stay w.core e) (deaf_of left.kept) (sent_owned h.kept e) (sym h.kept.made.1 ∙ map_count queue_of h.mixes) h.carry;
       rested = rests_happened w e h.rested;
       more = left.more;
     }

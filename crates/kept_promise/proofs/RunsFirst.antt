@@ -183,7 +183,7 @@ server_first opening tree count all t = record {
   lengths = λ i c e. no_element i c e;
   targets = λ i c e. no_element i c e;
   xids = λ i c e. no_element i c e;
-  leases = count.term_fits;
+  leases = (count.term_fits, tt);
   serves = count.lbfs_fits;
 }
   where
@@ -201,13 +201,17 @@ kept_first opening tree count all alike t = record {
   sound = record {
     rights = λ k o e. no_element k o e;
     fits = λ k o e. no_element k o e;
+    strangers = λ k r e. no_element k r e;
     journal = record { count = refl; rising = λ i j p q lt e f. no_element i p e; apart = λ i j p q d e lt a b c f g h. no_element i p a; made = λ i p e f g h. no_element i p f; only = λ k p o e f g. no_element k o e; once = λ k m p o q e f c g h. no_element k o e };
     past = λ i p e. no_element i p e;
     alike = alike;
   };
   server = server_first opening tree count all t;
   made = (refl, refl);
-  sessions = λ n x q e f. no_numbered n x e;
+  raws = refl;
+  came = record { many = refl; past = λ n p e. no_numbered n p e };
+  sessions = λ n x q e f own. no_numbered n x e;
+  strangers = λ n x q e f raw. no_numbered n x e;
   seats = λ i seat e. subst (IsSeat (book_at opening (first_core tree count) all) [] i) (sym (all_new count.drift count.lbfs count.count i seat e)) (seat_first (book_at opening (first_core tree count) all) count.drift i);
   running = λ p o e f. no_element p o e;
   closings = λ m n p x y e f g h. no_numbered m x e;

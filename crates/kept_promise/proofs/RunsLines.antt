@@ -2,13 +2,13 @@
 use Rattle.std.proofs.Common.{◌≡◌, ℕ, lit<, ◌+◌, ◌^◌, ◌<◌, ◌≤◌, List, [], ◌∷◌, length, Option, Some, None, Bool, true, false, refl, sym, ap, ◌∙◌, subst, arith, Result, Ok, Err, drop, take}
 use Rattle.std.specs.Prelude.{codes}
 use Rattle.command_text.specs.Commands.{command_of, open_of, open_at, rewrite_of, rewrite_at, write_of, trunc_of, read_of, close_of, abandon_of, path_command_of}
-use Rattle.command_text.specs.Fields.{value_from, is_decimal, value_of, number_of, number_within, content_of, id_of}
+use Rattle.command_text.specs.Fields.{value_from, is_decimal, value_of, number_of, number_within, content_of, id_of, is_hex}
 use Rattle.command_text.specs.Parts.{words_of}
 use Rattle.command_text.specs.Paths.{spot_of}
 use Rattle.command_text.specs.declared.command.Command.TheVariants as command
 use Rattle.command_text.specs.declared.path.Spot.{Spot}
-use Rattle.trace_text.specs.Fields.{lbfs_of, reading_of, amount_of, who_of, key_of}
-use Rattle.trace_text.specs.Grammar.{version_of, term_of, drift_of, clients_of, dir_of, file_of, join_of, do_of, up_of, down_of, pass_of, settle_of, cut_of, hang_of, forge_of, clear_of, evict_of, warm_of, event_from, line_from, said_by, is_skipped}
+use Rattle.trace_text.specs.Fields.{lbfs_of, reading_of, amount_of, who_of, key_of, bytes_of}
+use Rattle.trace_text.specs.Grammar.{version_of, term_of, drift_of, clients_of, dir_of, file_of, join_of, do_of, up_of, down_of, pass_of, settle_of, cut_of, hang_of, forge_of, clear_of, evict_of, warm_of, event_from, line_from, said_by, is_skipped, rawjoin_of, raw_of}
 use Rattle.trace_text.specs.declared.line.Line.TheVariants as line
 use Rattle.trace_text.specs.declared.line.TheConstants.{LBFS_TRACED}
 use Rattle.kept_promise.proofs.Statements.{IsSpoken}
@@ -16,8 +16,8 @@ use Rattle.trace_ends.specs.declared.adjusting.Adjustment.TheVariants as adjustm
 use Rattle.trace_replay.specs.declared.stage.Stage.{Stage}
 use Rattle.trace_replay.specs.declared.stage.Stage.TheVariants as stage
 use Rattle.trace_replay.specs.declared.turn.Turn.TheVariants as turn
-use Rattle.trace_replay.specs.Run.{file_most, tree_most, is_there, place_for, free_in, led_to, file_asks, directory_asks}
-use Rattle.kept_promise.proofs.Common.{nat_tests, ◌&&◌, nat_lt, nat_le, if◌then◌else◌, bytes_eq, content_length, Command, Part, line_of, Line, LineFault, Grammar, Turn, Seat, Session, numbered, World, line_most, sessions_most, asks_if, sized, joins_if, joins_within, event_asks, asks_at, asks, asks_within, asked, can_open}
+use Rattle.trace_replay.specs.Run.{file_most, tree_most, is_there, place_for, free_in, led_to, file_asks, directory_asks, raw_joins_within, is_raw_at}
+use Rattle.kept_promise.proofs.Common.{nat_tests, ◌&&◌, nat_lt, nat_le, if◌then◌else◌, bytes_eq, content_length, Command, Part, line_of, Line, LineFault, Grammar, Turn, Seat, Session, numbered, World, line_most, sessions_most, asks_if, sized, joins_if, joins_within, event_asks, asks_at, asks, asks_within, asked, can_open, is_raw}
 use Rattle.kept_promise.proofs.Parsed.{Gives, gives_some, gives_none, gives_if, gives_after, gives_then}
 use Rattle.kept_promise.proofs.PathNames.{IsNamed, IsPlain, IsSmall, find_named, renew_named, path_command_named}
 use Rattle.trace_replay.proofs.lemmas.Warming.{warms_turn, warm_taken}
@@ -25,6 +25,10 @@ use Rattle.kept_promise.proofs.RunsResults.{asking, turn_is, refused_line}
 use Rattle.kept_promise.proofs.Lists.{some_is, nothing_there}
 use Rattle.tree_reading.specs.Tree.{Tree}
 use Rattle.xdr_codec.specs.declared.handle.TheConstants.{ROOT}
+use Rattle.kept_promise.proofs.SentBytes.{AreBytes, decoded_bytes}
+use Rattle.hex.specs.Hex.{decode_of}
+use Rattle.hex.specs.declared.error.FromHexError.{FromHexError}
+use Rattle.std.specs.Result.{result_ok}
 
 -- ---- numbers of a text
 
@@ -101,6 +105,7 @@ abbrev pub LineFits : Line → Type 0
 LineFits (line.Do c r d) = IsPlain d
 LineFits (line.Version n) = IsSpoken n
 LineFits (line.Term n) = n < 4294967296
+LineFits (line.Raw n bytes) = AreBytes bytes
 LineFits l = Unit {0}
 
 do_fits : (words : List (List ℕ)) → Gives LineFits (do_of words)
@@ -170,6 +175,21 @@ pass_fits (a ∷ b ∷ c ∷ d ∷ []) =
     gives_then LineFits (number_of a) _ (λ x. gives_then LineFits (number_of b) _ (λ y. gives_then LineFits (reading_of c) _ (λ z. gives_then LineFits (reading_of d) _ (λ u. gives_some LineFits (line.Pass x y z u) tt))))
 pass_fits _ = gives_none LineFits
 
+rawjoin_fits : (words : List (List ℕ)) → Gives LineFits (rawjoin_of words)
+rawjoin_fits (a ∷ []) = gives_then LineFits (reading_of a) _ (λ x. gives_some LineFits (line.RawJoin x) tt)
+rawjoin_fits _ = gives_none LineFits
+
+sent_bytes : (word : List ℕ) → Gives AreBytes (bytes_of word)
+sent_bytes word = gives_if AreBytes (is_hex word) (result_ok (decode_of word)) None (λ bytes e. decoded_bytes word bytes (by (decode_of word) bytes e)) (gives_none AreBytes)
+  where
+    by : (r : Result (List ℕ) FromHexError) (bytes : List ℕ) → result_ok r ≡ Some bytes → r ≡ Ok bytes
+    by (Ok x) bytes e = ap (λ (z : List ℕ). Ok z) (some_is x bytes e)
+    by (Err why) bytes e = nothing_there bytes e
+
+raw_fits : (words : List (List ℕ)) → Gives LineFits (raw_of words)
+raw_fits (a ∷ b ∷ []) = gives_then LineFits (number_of a) _ (λ x. gives_after AreBytes LineFits (bytes_of b) _ (sent_bytes b) (λ y h. gives_some LineFits (line.Raw x y) h))
+raw_fits _ = gives_none LineFits
+
 settle_fits : (words : List (List ℕ)) → Gives LineFits (settle_of words)
 settle_fits (a ∷ []) = gives_then LineFits (reading_of a) _ (λ x. gives_some LineFits (line.Settle x) tt)
 settle_fits _ = gives_none LineFits
@@ -206,13 +226,15 @@ event_fits kind words =
     (gives_if LineFits (bytes_eq kind (codes "up")) _ _ (up_fits words)
     (gives_if LineFits (bytes_eq kind (codes "down")) _ _ (down_fits words)
     (gives_if LineFits (bytes_eq kind (codes "pass")) _ _ (pass_fits words)
+    (gives_if LineFits (bytes_eq kind (codes "rawjoin")) _ _ (rawjoin_fits words)
+    (gives_if LineFits (bytes_eq kind (codes "raw")) _ _ (raw_fits words)
     (gives_if LineFits (bytes_eq kind (codes "settle")) _ _ (settle_fits words)
     (gives_if LineFits (bytes_eq kind (codes "cut")) _ _ (cut_fits words)
     (gives_if LineFits (bytes_eq kind (codes "hang")) _ _ (hang_fits words)
     (gives_if LineFits (bytes_eq kind (codes "forge")) _ _ (forge_fits words)
     (gives_if LineFits (bytes_eq kind (codes "clear")) _ _ (clear_fits words)
     (gives_if LineFits (bytes_eq kind (codes "evict")) _ _ (evict_fits words)
-    (gives_if LineFits (bytes_eq kind (codes "warm")) _ _ (warm_fits words) (gives_none LineFits))))))))))))
+    (gives_if LineFits (bytes_eq kind (codes "warm")) _ _ (warm_fits words) (gives_none LineFits))))))))))))))
 
 words_fit : (kind : List ℕ) (words : List (List ℕ)) → Gives LineFits (line_from kind words)
 words_fit kind words =
@@ -257,6 +279,8 @@ Allows w (turn.Join c) = (seat : Seat) × (numbered w.core.seats c ≡ Some seat
 Allows w (turn.Do c now d) = (seat : Seat) × (numbered w.core.seats c ≡ Some seat) × IsSmall d
 Allows w (turn.Cut c) = (seat : Seat) × (numbered w.core.seats c ≡ Some seat)
 Allows w (turn.Hang n) = (x : Session) × (numbered w.core.sessions n ≡ Some x)
+Allows w turn.RawJoin = length w.core.server.sessions < 64
+Allows w (turn.Raw n bytes) = (x : Session) × (numbered w.core.sessions n ≡ Some x) × (is_raw x ≡ true) × AreBytes bytes
 Allows w t = Unit {0}
 
 goes : (w : World) (u t : Turn) → asking u ≡ asking t → Allows w u → Allows w t
@@ -286,6 +310,25 @@ joins_on w c t e = by (numbered w.core.seats c) refl e
     by None at e = refused_line Grammar t e
     by (Some seat) at e = by_seat seat at seat.client.linked refl e
 
+raw_joins_on : (w : World) (t : Turn) → raw_joins_within (nat_lt (length w.core.server.sessions) sessions_most) ≡ asking t → Allows w t
+raw_joins_on w t e = by (nat_lt (length w.core.server.sessions) sessions_most) refl e
+  where
+    by : (b : Bool) → nat_lt (length w.core.server.sessions) sessions_most ≡ b → raw_joins_within b ≡ asking t → Allows w t
+    by true room e = goes w turn.RawJoin t e (grind (arith, nat_tests, room))
+    by false room e = refused_line _ t e
+
+-- the session that sends is no client's
+raw_on : (w : World) (n : ℕ) (bytes : List ℕ) (t : Turn) → AreBytes bytes → asks_if (is_raw_at (numbered w.core.sessions n)) (turn.Raw n bytes) ≡ asking t → Allows w t
+raw_on w n bytes t are e = by (numbered w.core.sessions n) refl e
+  where
+    by_raw : (x : Session) → numbered w.core.sessions n ≡ Some x → (b : Bool) → is_raw x ≡ b → asks_if b (turn.Raw n bytes) ≡ asking t → Allows w t
+    by_raw x at true raw e = goes w (turn.Raw n bytes) t e (x, at, raw, are)
+    by_raw x at false own e = refused_line Grammar t e
+
+    by : (o : Option Session) → numbered w.core.sessions n ≡ o → asks_if (is_raw_at o) (turn.Raw n bytes) ≡ asking t → Allows w t
+    by None at e = refused_line Grammar t e
+    by (Some x) at e = by_raw x at (is_raw x) refl e
+
 -- its names are names, or its id has a number of 64 bits
 plain_small : (d : Command) → IsPlain d → IsSmall d
 plain_small (command.Named k) plain = plain
@@ -298,6 +341,8 @@ event_on w (line.Up n a at) t fits e = goes_if w _ (turn.Up n a at) t e tt
 event_on w (line.Down n a r) t fits e = goes_if w _ (turn.Down n a r) t e tt
 event_on w (line.Settle at) t fits e = goes w (turn.Settle at) t e tt
 event_on w (line.Cut c r) t fits e = goes_there w (numbered w.core.seats c) (turn.Cut c) t e (λ x at. (x, at))
+event_on w (line.RawJoin at) t fits e = raw_joins_on w t e
+event_on w (line.Raw n bytes) t fits e = raw_on w n bytes t fits e
 event_on w (line.Hang n at) t fits e = goes_there w (numbered w.core.sessions n) (turn.Hang n) t e (λ x at. (x, at))
 event_on w (line.Pass n rounds at r) t fits e = goes_if w _ (turn.Pass n rounds at r) t e tt
 event_on w (line.Forge u key file offset count) t fits e = goes_if w _ (turn.Adjust (adjustment.Forge u key (record { file = file; offset = offset; count = count }))) t e tt

@@ -1,18 +1,18 @@
 -- What is on its way between the two ends of a run are whole messages, each of which its end reads.
-use Rattle.std.proofs.Common.{◌≡◌, ℕ, zero, suc, List, [], ◌∷◌, length, Option, Some, None, Bool, true, false, refl, sym, ap, ◌∙◌, subst, arith, map}
+use Rattle.std.proofs.Common.{◌≡◌, ℕ, zero, suc, List, [], ◌∷◌, length, Option, Some, None, Bool, true, false, refl, sym, ap, ◌∙◌, subst, arith, map, ◌⊎◌, inl, inr}
 use Rattle.std.specs.List.{AllByRecursion}
-use Rattle.trace_replay.specs.Traces.{IsRead, IsServed, IsAnswered, xid_of, is_call, AreOfOne, HoldsMessages}
+use Rattle.trace_replay.specs.Traces.{IsRead, IsServed, IsAnswered, xid_of, is_call, AreOfOne, HoldsMessages, HoldsQueues}
 use Rattle.hash_calls.specs.declared.message.BackProc.TheVariants as back_proc
 use Rattle.lease_law.specs.Claims.{recall_message}
 use Rattle.wire.specs.Parse.{waiting}
 use Rattle.wire.specs.declared.message.Program.{Program}
 use Rattle.wire.specs.declared.message.Program.TheVariants as program
-use Rattle.kept_promise.proofs.Common.{not, stands, All-nil, All-cons, All, slice_get, ◌==◌, ◌||◌, if◌then◌else◌, has_call, State, MessageFits, IsExpected, Waiting, Message, Pending, waiting_of, calls_of, Core, Session, server_waiting, server_waits, World, Moment, book_of, Call, Call.Lease, Ask, Told, Up, Up.Asks, Up.Replies, Down, Down.Tells, Down.Recalls, Mix, asks_in, tolds_in, queue_of, numbered, call_message, ask_message, told_message, reply_message, up_message, down_message, Call.Walks}
+use Rattle.kept_promise.proofs.Common.{not, stands, All-nil, All-cons, All, slice_get, ◌==◌, ◌||◌, if◌then◌else◌, has_call, State, MessageFits, IsExpected, Waiting, Message, Pending, waiting_of, calls_of, Core, Session, server_waiting, server_waits, World, Moment, book_of, Call, Call.Lease, Ask, Told, Up, Up.Asks, Up.Replies, Down, Down.Tells, Down.Recalls, Mix, asks_in, tolds_in, queue_of, numbered, call_message, ask_message, told_message, reply_message, up_message, down_message, Call.Walks, is_raw}
 use Rattle.kept_promise.proofs.Statements.{ToldFits, CallFits}
 use Rattle.kept_promise.proofs.Messages.{AllAsks, AllTolds}
 use Rattle.kept_promise.proofs.Facts.{IsSession}
 use Rattle.kept_promise.proofs.Fits.{FitLaws}
-use Rattle.kept_promise.proofs.Turns.{also_numbered}
+use Rattle.kept_promise.proofs.Turns.{also_numbered, raw_or_owned}
 use Rattle.kept_promise.proofs.Lists.{some_is, nothing_there}
 use Rattle.kept_promise.proofs.Heard.{told_pending, rising_times}
 use Rattle.kept_promise.proofs.Moves.{told_there, expected}
@@ -31,6 +31,7 @@ use Rattle.path_calls.specs.declared.walk.Goal.{Goal}
 use Rattle.path_calls.specs.declared.walk.Goal.TheVariants as goal
 use Rattle.kept_promise.specs.Talk.{reply_body}
 use Rattle.wire.specs.Message.{FitsIn}
+use Rattle.kept_promise.proofs.Leading.{IsCarried}
 
 -- ---- the numbers of RECALLs
 
@@ -241,35 +242,10 @@ holds_messages P fits all past w h counted number q at =
     let there = also_numbered w.wires h.mixes number q (sym h.carry.0) at in
     let m : Mix = there.0 in
     let x = also_numbered h.mixes w.core.sessions number m (sym h.kept.made.1 ∙ map_count queue_of h.mixes) there.1 in
-    let s = h.kept.sessions number x.0 (queue_of m) x.1 (there_plain h.mixes number m there.1) in
-    let mix = h.fit number x.0 m x.1 there.1 in
-    let own = counted number m there.1 in
-    let waited = waits_all x.0 m (stands w.core.server number) s.stands_is mix own x.0.hung refl in
-    let c = h.carry.1 number q m at there.1 in
-    record {
-      session = x.0;
-      seat = s.seat;
-      session_is = x.1;
-      seat_is = s.owner;
-      ups = map up_message m.ups;
-      up = record { sound = c.up_sound; read = ups_read fits w.core number m.ups s.ups_fit mix.ups waited; bytes = c.up };
-      done = ups_done (server_waits w.core number).calls m.ups waited;
-      apart = λ uncut i j a b one two same.
-          let u = of_up m.ups i a one in
-          let v = of_up m.ups j b two in
-          let talk = s.talk uncut in
-          let once : AsksOnce (asks_in m.ups) = λ k l d e at on alike. place_once (λ (z : Ask). z.xid) (asks_in m.ups) k l d e at on alike (rising_times talk.floor (asks_in m.ups) s.seat.client.next_xid e.xid talk.rising) in
-          one_place SameUp (λ z y. of_one_turn (up_message z) (up_message y)) m.ups (ups_others m.ups once own.replies) i j u.0 v.0 u.1 v.1 (subst (λ z. AreOfOne z (up_message v.0)) (sym u.2) (subst (AreOfOne a) (sym v.2) same));
-      downs = map down_message m.downs;
-      down = record { sound = c.down_sound; read = downs x.0 m s mix x.0.cut refl; bytes = c.down };
-      answered = answers x.0 m s mix x.0.cut refl;
-      once = λ i j a b one two same.
-          let d = of_down m.downs i a one in
-          let e = of_down m.downs j b two in
-          one_place SameDown (λ z y. of_one_turn (down_message z) (down_message y)) m.downs (downs_others m.downs (once x.0 m s x.0.cut refl) own.recalls) i j d.0 e.0 d.1 e.1 (subst (λ z. AreOfOne z (down_message e.0)) (sym d.2) (subst (AreOfOne a) (sym e.2) same));
-      lost = λ hung. ap (map up_message) (mix.lost hung);
-      shut = λ cut. ap (map down_message) (mix.shut cut);
-    }
+    elim (raw_or_owned x.0) [
+      | inl raw ↦ inr (x.0, x.1, raw, (subst (λ (b : Bool). IsCarried b q m) raw (h.carry.1 number x.0 q m x.1 at there.1)).0)
+      | inr owned ↦ inl (held m there.1 x.0 x.1 owned)
+    ]
   where
     -- one that the server sees hung has nothing on its way up
     waits_all : (x : Session) (m : Mix) (stand : Bool) → stand ≡ not x.hung → IsMix x m → HasNumbers stand (server_waits w.core number).calls m → (b : Bool) → x.hung ≡ b → AllByRecursion (UpWaits (server_waits w.core number).calls) m.ups
@@ -288,3 +264,36 @@ holds_messages P fits all past w h counted number q at =
     once : (x : Session) (m : Mix) → (s : IsSession (book_of w all) w.core.seats w.core.server number x (queue_of m)) → (b : Bool) → x.cut ≡ b → ToldsOnce (tolds_in m.downs)
     once x m s true cut i j t u a b same = nothing_there t (ap (λ (l : List Told). slice_get l i) (sym (s.shut cut)) ∙ a)
     once x m s false uncut i j t u a b same = answers_apart number w.core.server.waiting (queue_of m) x.hung s.seat.client.next_xid (calls_of s.seat.client) i j t u (s.talk uncut).balanced a b same
+
+    -- of a client's session
+    held : (m : Mix) → numbered h.mixes number ≡ Some m → (x : Session) → numbered w.core.sessions number ≡ Some x → is_raw x ≡ false → HoldsQueues w number q
+    held m on x here owned =
+        let s = h.kept.sessions number x (queue_of m) here (there_plain h.mixes number m on) owned in
+        let mix = h.fit number x m here on in
+        let own = counted number m on in
+        let waited = waits_all x m (stands w.core.server number) s.stands_is mix own x.hung refl in
+        let c = subst (λ (b : Bool). IsCarried b q m) owned (h.carry.1 number x q m here at on) in
+        record {
+          session = x;
+          seat = s.seat;
+          session_is = here;
+          seat_is = s.owner;
+          ups = map up_message m.ups;
+          up = record { sound = c.up_sound; read = ups_read fits w.core number m.ups s.ups_fit mix.ups waited; bytes = c.up };
+          done = ups_done (server_waits w.core number).calls m.ups waited;
+          apart = λ uncut i j a b one two same.
+              let u = of_up m.ups i a one in
+              let v = of_up m.ups j b two in
+              let talk = s.talk uncut in
+              let once : AsksOnce (asks_in m.ups) = λ k l d e at on alike. place_once (λ (z : Ask). z.xid) (asks_in m.ups) k l d e at on alike (rising_times talk.floor (asks_in m.ups) s.seat.client.next_xid e.xid talk.rising) in
+              one_place SameUp (λ z y. of_one_turn (up_message z) (up_message y)) m.ups (ups_others m.ups once own.replies) i j u.0 v.0 u.1 v.1 (subst (λ z. AreOfOne z (up_message v.0)) (sym u.2) (subst (AreOfOne a) (sym v.2) same));
+          downs = map down_message m.downs;
+          down = record { sound = c.down_sound; read = downs x m s mix x.cut refl; bytes = c.down };
+          answered = answers x m s mix x.cut refl;
+          once = λ i j a b one two same.
+              let d = of_down m.downs i a one in
+              let e = of_down m.downs j b two in
+              one_place SameDown (λ z y. of_one_turn (down_message z) (down_message y)) m.downs (downs_others m.downs (once x m s x.cut refl) own.recalls) i j d.0 e.0 d.1 e.1 (subst (λ z. AreOfOne z (down_message e.0)) (sym d.2) (subst (AreOfOne a) (sym e.2) same));
+          lost = λ hung. ap (map up_message) (mix.lost hung);
+          shut = λ cut. ap (map down_message) (mix.shut cut);
+        }

@@ -84,6 +84,7 @@ next_turned next w (turn.File dir name content) f h = λ early.
     let more = opens_file w.core.server.tree dir name (content_bytes content) was.0 f.1.0 in
     (more.given, more.next ∙ ap (λ (i : ℕ). i + 1) was.1)
 next_turned next w (turn.Join c) f h = λ early. not_early (turned w (turn.Join c)).stage refl early
+next_turned next w turn.RawJoin f h = λ early. not_early (turned w turn.RawJoin).stage refl early
 next_turned next w e f h = λ early. not_early (turned w e).stage (turned_to w e tt).stage early
 
 next_first : HasNext 2 start

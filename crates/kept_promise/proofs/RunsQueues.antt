@@ -5,6 +5,7 @@ use Rattle.kept_promise.proofs.Places.{becomes, swap, become_has, put_is, next_i
 use Rattle.callback_core.specs.declared.back_calls.Asked.{Asked}
 use Rattle.server_core.specs.Recalling.{recall_sent}
 use Rattle.kept_promise.proofs.Leading.{Sends, sent_message, recall_down, told_down, sent_ups, sent_downs, mix_ups_in, mix_ups, mix_downs_in, mix_downs, mixes_lost, mixes_after}
+use Rattle.kept_promise.proofs.Lists.{none_behind}
 
 -- ---- what is sent, as changes of what is on its way
 
@@ -96,7 +97,7 @@ no_more (a ∷ cs) ts e = absurd (by e)
 up_is : (qs : List Mix) (t : CoreStep) (s : Sends t) → t.loss ≡ Nothing → t.down ≡ [] → mixes_after qs t s ≡ mix_ups t.core.sessions qs t.session (sent_ups t s)
 up_is qs t s loss none =
     ap (λ (l : Loss). mix_downs t.core.sessions (mix_ups t.core.sessions (mixes_lost qs l) t.session (sent_ups t s)) (sent_downs t s)) loss
-    ∙ ap (λ (ps : List (ℕ × Down)). mix_downs t.core.sessions (mix_ups t.core.sessions qs t.session (sent_ups t s)) ps) (no_more s.recalls s.tolds (sym none ∙ s.down_is))
+    ∙ ap (λ (ps : List (ℕ × Down)). mix_downs t.core.sessions (mix_ups t.core.sessions qs t.session (sent_ups t s)) ps) (no_more s.recalls s.tolds (none_behind s.strays (map recall_sent s.recalls ++ map sent_message s.tolds) (sym none ∙ s.down_is)))
 
 pub heard_off : (i n : ℕ) (qs : List Mix) (t : CoreStep) (s : Sends t) → t.loss ≡ Nothing → t.down ≡ [] → mixes_after (becomes (off_downs i) qs n) t s ≡ becomes (off_downs i) (mixes_after qs t s) n
 heard_off i n qs t s loss none = up_is (becomes (off_downs i) qs n) t s loss none ∙ ups_off i n t.core.sessions qs t.session (sent_ups t s) ∙ ap (λ (zs : List Mix). becomes (off_downs i) zs n) (sym (up_is qs t s loss none))

@@ -1,20 +1,20 @@
 -- One line of a run: what stands before it stands behind it, with its moments among those that are past.
-use Rattle.std.proofs.Common.{◌≡◌, ℕ, zero, suc, ◌+◌, ◌<◌, ◌≤◌, List, [], ◌∷◌, ◌++◌, length, Some, Bool, true, false, refl, sym, ap, ◌∙◌, subst, arith, append-nil, map, replicate}
+use Rattle.std.proofs.Common.{◌≡◌, ℕ, zero, suc, ◌+◌, ◌<◌, ◌≤◌, List, [], ◌∷◌, ◌++◌, length, Some, Bool, true, false, refl, sym, ap, ◌∙◌, subst, arith, append-nil, map, replicate, Option, None}
 use Rattle.trace_replay.specs.declared.stage.Stage.{Stage}
 use Rattle.trace_replay.specs.declared.stage.Stage.TheVariants as stage
 use Rattle.trace_replay.specs.declared.turn.Turn.TheVariants as turn
 use Rattle.trace_replay.specs.Run.{with_file, with_directory, with_clients, with_version, with_leases, with_drift, in_header}
 use Rattle.server_core.specs.State.{with_term}
 use Rattle.kept_promise.proofs.Statements.{IsSpoken}
-use Rattle.kept_promise.proofs.Common.{nat_tests, nat_lt, ◌&&◌, content_bytes, Part, content_size, Turn, Queue, queue_of, Core, new_seat, Session, Event.Joins, Event.Does, Event.Settles, Event.Cuts, Event.Hangs, numbered, World, adjusts, Wire, up_length, down_length, at_events, count_of, turned, owners_of, Moment, turn_moments, Tree, can_open}
-use Rattle.kept_promise.proofs.Lists.{nothing_there, count_more}
+use Rattle.kept_promise.proofs.Common.{nat_tests, nat_lt, ◌&&◌, content_bytes, Part, content_size, Turn, Queue, queue_of, Core, new_seat, Session, Event.Joins, Event.Does, Event.Settles, Event.Cuts, Event.Hangs, numbered, World, adjusts, Wire, up_length, down_length, at_events, count_of, turned, owners_of, Moment, turn_moments, Tree, can_open, is_raw, Event.RawJoins, unless, with_numbered}
+use Rattle.kept_promise.proofs.Lists.{nothing_there, count_more, some_is, all_unless}
 use Rattle.trace_ends.specs.declared.adjusting.Adjustment.{Adjustment}
 use Rattle.kept_promise.proofs.Rights.{AreAlike}
 use Rattle.kept_promise.proofs.Adjusts.{adjusted_core, kept_adjusted, adjusts_is}
 use Rattle.kept_promise.proofs.Facts.{IsKept}
 use Rattle.kept_promise.proofs.Fits.{FitLaws}
-use Rattle.kept_promise.proofs.Leading.{CarryAll}
-use Rattle.kept_promise.proofs.Rounds.{AreRested}
+use Rattle.kept_promise.proofs.Leading.{CarryAll, IsCarried}
+use Rattle.kept_promise.proofs.Rounds.{AreRested, AreRestedBut, rests_put}
 use Rattle.kept_promise.proofs.lemmas.Owners.{owners_after, MayTurn, turned_to}
 use Rattle.kept_promise.proofs.RunsCarried.{KeptLaws, book_at, Header, first_core, CarriedMix, Stands}
 use Rattle.kept_promise.proofs.Mixes.{AreMixes}
@@ -29,6 +29,10 @@ use Rattle.server_core.specs.Step.{opens_with}
 use Rattle.server_law.proofs.lemmas.Trees.{given}
 use Rattle.kept_promise.proofs.TreeOpens.{opens_file, opens_directory}
 use Rattle.kept_promise.proofs.RunsLines.{IsFree, MayOpen}
+use Rattle.trace_replay.specs.World.{raw_put, raw_put_in}
+use Rattle.kept_promise.proofs.Routes.{carry_with}
+use Rattle.kept_promise.proofs.Turns.{also_numbered, with_same}
+use Rattle.kept_promise.proofs.SentBytes.{AreBytes}
 
 -- ---- before the first event
 
@@ -51,15 +55,22 @@ pub record Before (P : MixFact) (n : ℕ) (all past : List Moment) (w : World) :
   pub few : length w.core.sessions < n
   pub first : is_early w.stage ≡ true → IsFirst n w past
 
-carry_none : (wires : List Wire) → wires ≡ [] → CarryAll wires []
-carry_none wires e = subst (λ (ws : List Wire). CarryAll ws []) (sym e) (refl, λ n q m f g. by n q f)
+carry_none : (sessions : List Session) (wires : List Wire) → wires ≡ [] → CarryAll sessions wires []
+carry_none sessions wires e = subst (λ (ws : List Wire). CarryAll sessions ws []) (sym e) (refl, λ n x q m at f g. by n q f)
   where
     by : {A : Type 0} (n : ℕ) (q : Wire) → numbered [] n ≡ Some q → A
     by zero q f = nothing_there q f
     by (suc k) q f = nothing_there q f
 
-rested_none : (wires : List Wire) → wires ≡ [] → AreRested wires
-rested_none wires e = subst AreRested (sym e) (λ k q f. nothing_there q f)
+rested_none : (w : World) (tree : Tree) (count : Header) → w.core ≡ first_core tree count → w.wires ≡ [] → AreRested w
+rested_none w tree count core_is wires_is = record {
+  count = ap length wires_is ∙ ap (λ (k : Core). length k.sessions) (sym core_is);
+  each = λ n q at. none_at n q (ap (λ (ws : List Wire). numbered ws n) (sym wires_is) ∙ at);
+}
+  where
+    none_at : {A : Type 0} (n : ℕ) (q : Wire) → numbered [] n ≡ Some q → A
+    none_at zero q f = nothing_there q f
+    none_at (suc k) q f = nothing_there q f
 
 -- nothing is on its way
 none_fit : (sessions : List Session) → AreMixes sessions []
@@ -79,8 +90,8 @@ first_stands P carried n all past w alike f =
       fit = none_fit w.core.sessions;
       kept = subst (λ (k : Core). IsKept (book_at w.opening k all) k []) (sym f.core_is) kept;
       early = subst (λ (k : Core). IsKept (book_at w.opening k past) k []) (sym f.core_is) early;
-      carry = carry_none w.wires f.wires_is;
-      rested = rested_none w.wires f.wires_is;
+      carry = carry_none w.core.sessions w.wires f.wires_is;
+      rested = rested_none w f.tree f.count f.core_is f.wires_is;
       more = subst (λ (k : Core). P all past w.opening k []) (sym f.core_is) (subst (λ (z : List Moment). P all z w.opening (first_core f.tree f.count) []) (sym f.past_is) (carried.first all w.opening f.tree f.count kept));
     }
 
@@ -92,6 +103,7 @@ map_count f (x ∷ xs) = ap suc (map_count f xs)
 
 owners_count : (os : List ℕ) (t : Turn) → length (owners_after os true t) ≤ length os + 1
 owners_count os (turn.Join c) = let e = count_more os c in omega (arith, e)
+owners_count os turn.RawJoin = let e = count_more os 0 in omega (arith, e)
 owners_count os _ = omega arith
 
 few_turned : (n : ℕ) (w : World) (t : Turn) → MayTurn w t → length w.core.sessions < n → length (turned w t).core.sessions < n + 1
@@ -115,6 +127,9 @@ may_turn P n all past w (turn.Join c) h le f =
     let made = made_small P n all past w h le in
     let room = f.3 in
     ((f.0, f.1), both_true (nat_lt (length w.core.server.sessions) 64) (nat_lt w.core.server.sessions_made 4294967295) (grind (arith, nat_tests, room)) (grind (arith, nat_tests, made)))
+may_turn P n all past w turn.RawJoin h le f =
+    let made = made_small P n all past w h le in
+    both_true (nat_lt (length w.core.server.sessions) 64) (nat_lt w.core.server.sessions_made 4294967295) (grind (arith, nat_tests, f)) (grind (arith, nat_tests, made))
 may_turn P n all past w _ h le f = tt
 
 -- ---- lines before the first event
@@ -272,10 +287,27 @@ adjusted_stands P carried all past w a h =
       fit = subst (λ (c : Core). AreMixes c.sessions h.mixes) (sym b.is) h.fit;
       kept = subst (λ (c : Core). IsKept (book_at w.opening c all) c qs) (sym b.is) kept;
       early = subst (λ (c : Core). IsKept (book_at w.opening c past) c qs) (sym d.is) early;
-      carry = h.carry;
-      rested = h.rested;
+      carry = subst (λ (c : Core). CarryAll c.sessions w.wires h.mixes) (sym b.is) h.carry;
+      rested = subst (λ (c : Core). AreRestedBut 0 c.sessions w.wires) (sym b.is) h.rested;
       more = subst (λ (c : Core). P all past w.opening c h.mixes) (sym b.is) (carried.adjusts all past w.opening w.core h.mixes b.index b.seats b.same h.more);
     }
+
+-- a session that is no client's sends bytes: no event, and nothing is known of them
+raw_stands : (P : MixFact) (all past : List Moment) (w : World) (n : ℕ) (bytes : List ℕ) (x : Session) → numbered w.core.sessions n ≡ Some x → is_raw x ≡ true → AreBytes bytes → Stands P all past w → Stands P all past (raw_put w n bytes)
+raw_stands P all past w n bytes x at raw are h =
+    let carry = subst (λ (o : Option Session). CarryAll w.core.sessions (raw_put_in w.wires n bytes o (numbered w.wires n)) h.mixes) (sym at) (by (numbered w.wires n) refl) in
+    record { mixes = h.mixes; fit = h.fit; kept = h.kept; early = h.early; carry = carry; rested = rests_put w n bytes h.rested; more = h.more }
+  where
+    more : Wire → Wire
+    more q = record q { up = unless x.hung q.up bytes }
+
+    by : (o : Option Wire) → numbered w.wires n ≡ o → CarryAll w.core.sessions (raw_put_in w.wires n bytes (Some x) o) h.mixes
+    by None f = h.carry
+    by (Some q) f =
+        let m = also_numbered w.wires h.mixes n q (sym h.carry.0) f in
+        let was : IsCarried true q m.0 = subst (λ (b : Bool). IsCarried b q m.0) raw (h.carry.1 n x q m.0 at f m.1) in
+        let set = carry_with w.core.sessions w.wires h.mixes n q (more q) m.0 m.0 h.carry f m.1 (λ y at_. subst (λ (b : Bool). IsCarried b (more q) m.0) (sym (ap is_raw (some_is y x (sym at_ ∙ at)) ∙ raw)) (was.0, all_unless (λ (b : ℕ). b < 256) x.hung q.up bytes was.1 are, was.2)) in
+        subst (CarryAll w.core.sessions (with_numbered w.wires n (more q))) (with_same h.mixes n m.0 m.1) set
 
 stands_turned : (P : MixFact) → KeptLaws → FitLaws → CarriedMix P → (n : ℕ) (all past rest : List Moment) (w : World) (t : Turn) → n ≤ 65536 → Allows w t → Before P n all past w → all ≡ past ++ (turn_moments w t ++ rest) → Stands P all (past ++ turn_moments w t) (turned w t)
 stands_turned P l fits carried n all past rest w turn.Skip le f h split = idle_stands P all past w h.stands
@@ -291,6 +323,8 @@ stands_turned P l fits carried n all past rest w (turn.Do c now d) le f h split 
 stands_turned P l fits carried n all past rest w (turn.Settle now) le f h split = event_stands P l carried all past rest (at_events w) (Settles now) (same_stands P all past w stage.Events h.stands) split (refl, refl)
 stands_turned P l fits carried n all past rest w (turn.Cut c) le f h split = event_stands P l carried all past rest (at_events w) (Cuts c) (same_stands P all past w stage.Events h.stands) split ((f.0, f.1, refl), refl)
 stands_turned P l fits carried n all past rest w (turn.Hang m) le f h split = event_stands P l carried all past rest (at_events w) (Hangs m) (same_stands P all past w stage.Events h.stands) split ((f.0, f.1, refl), refl)
+stands_turned P l fits carried n all past rest w turn.RawJoin le f h split = event_stands P l carried all past rest (at_events w) RawJoins (same_stands P all past w stage.Events h.stands) split ((made_small P n all past w h le, f, refl), refl)
+stands_turned P l fits carried n all past rest w (turn.Raw m bytes) le f h split = idle_stands P all past (raw_put (at_events w) m bytes) (raw_stands P all past (at_events w) m bytes f.0 f.1 f.2 f.3 (same_stands P all past w stage.Events h.stands))
 stands_turned P l fits carried n all past rest w (turn.Up m a now) le f h split = up_stands P l fits carried all past rest (at_events w) m (count_of a (up_length (numbered w.wires m))) now split (same_stands P all past w stage.Events h.stands)
 stands_turned P l fits carried n all past rest w (turn.Down m a now) le f h split = down_stands P l carried all past rest (at_events w) m (count_of a (down_length (numbered w.wires m))) now split (same_stands P all past w stage.Events h.stands)
 stands_turned P l fits carried n all past rest w (turn.Pass m k server at) le f h split = passes_stand P l fits carried k all past rest (at_events w) m server at split (same_stands P all past w stage.Events h.stands)

@@ -16,13 +16,13 @@ use Rattle.file_open.specs.Fetching.{opens_kept}
 use Rattle.client_state.specs.Noting.{at as at_clock}
 use Rattle.file_open.specs.Opening.{lease_call}
 use Rattle.trace_replay.specs.Traffic.{unknown_in, unknown_number, deals_if}
-use Rattle.kept_promise.proofs.Common.{asked_in, Contains, Contains-append_left, Contains-append_right, Contains-push, Contains-push_cases, not, Answer, Done, Failed, Status, Command, Body, Message, WireFault, parse_of, temp_at, cond_fault, at, got_if, stands, opens, opens_if, asks_file, asks_kept, may_ask, is_open, command_step, Content, Task, Op, Opening, Core, Seat, Session, Event, Event.Does, Event.Serves, Event.Hears, numbered, server_waiting, server_waits, serves_if, serves, does, happens, Moment, step_of, client_of, owner_in, wanted_if, wanted_by, taken_by, given_by, is_in, Deal, Deal.Took, Deal.Found, Deal.Sent, deals_with, deals_in, deals_of, Book, Queue, Ask, Reply, Reply.Named, ask_message, told_message, reply_body}
+use Rattle.kept_promise.proofs.Common.{asked_in, Contains, Contains-append_left, Contains-append_right, Contains-push, Contains-push_cases, not, Answer, Done, Failed, Status, Command, Body, Message, WireFault, parse_of, temp_at, cond_fault, at, got_if, stands, opens, opens_if, asks_file, asks_kept, may_ask, is_open, command_step, Content, Task, Op, Opening, Core, Seat, Session, Event, Event.Does, Event.Serves, Event.Hears, numbered, server_waiting, server_waits, serves_if, serves, does, happens, Moment, step_of, client_of, owner_in, wanted_if, wanted_by, taken_by, given_by, is_in, Deal, Deal.Took, Deal.Found, Deal.Sent, deals_with, deals_in, deals_of, Book, Queue, Ask, Reply, Reply.Named, ask_message, told_message, reply_body, serves_unless, is_raw}
 use Rattle.kept_promise.proofs.Lists.{nothing_there}
 use Rattle.kept_promise.proofs.Messages.{Job, job, AllAsks, AllTolds}
 use Rattle.kept_promise.proofs.Orderly.{Wanted, IsWanted}
 use Rattle.kept_promise.proofs.Fits.{FitLaws}
 use Rattle.kept_promise.proofs.Facts.{IsKept, IsSession}
-use Rattle.kept_promise.proofs.Turns.{also_numbered}
+use Rattle.kept_promise.proofs.Turns.{also_numbered, has_owner, raw_or_owned, owned_up}
 use Rattle.kept_promise.proofs.RunsCarried.{book_at, moment, Finds, FindsAsk, Step, Carried}
 use Rattle.kept_promise.proofs.Actors.{Heard, heard_at, heard_takes}
 use Rattle.kept_promise.proofs.Replies.{recall_heard, recall_takes}
@@ -34,25 +34,27 @@ use Rattle.kept_promise.proofs.SentDown.{WasSent, DownsSent, sent_after}
 use Rattle.kept_promise.proofs.SentUp.{WasCalled, UpsSent, called_after, asked_only}
 use Rattle.kept_promise.proofs.FoundAsked.{found_asked}
 use Rattle.kept_promise.proofs.NameAnswers.{ComesTo, known_in, names_free, fault_apart, NameTaken, name_taken}
+use Rattle.trace_replay.specs.Trail.{can_hang}
 
 -- ---- the server answers a CONDWRITE
 
-answers_by : (k : Core) (n now : ℕ) (bytes : List ℕ) (x : Session) (xid : ℕ) (a : CondPiece) → numbered k.sessions n ≡ Some x → stands k.server n ≡ true → parse_of (server_waits k n) bytes ≡ Ok (name_call xid a) → cond_fault a (temp_at k.server.temps n a.fd) ≡ None
+answers_by : (k : Core) (n now : ℕ) (bytes : List ℕ) (x : Session) (xid : ℕ) (a : CondPiece) → numbered k.sessions n ≡ Some x → x.hung ≡ false → stands k.server n ≡ true → parse_of (server_waits k n) bytes ≡ Ok (name_call xid a) → cond_fault a (temp_at k.server.temps n a.fd) ≡ None
     → (happens k (Serves n now bytes)).down ≡ record { session = n; message = name_told xid (name_answer (known_in k.server a)) } ∷ []
-answers_by k n now bytes x xid a there standing read free =
+answers_by k n now bytes x xid a there unhung standing read free =
     ap (λ (o : Option Session). (serves k n now bytes o).down) there
+    ∙ ap (λ (b : Bool). (serves_unless k n now bytes x b).down) unhung
     ∙ ap (λ (r : Result Message WireFault). (serves_if k n now x r).down) read
     ∙ ap (λ b. (got_if k.server b n (name_call xid a) now).1.send) standing
     ∙ names_free (at k.server now) n xid a (temp_at k.server.temps n a.fd) free
 
 answers_name : FitLaws → (all : List Moment) (opening : List Opening) (k : Core) (qs mid : List Queue) (e : Event) → IsKept (book_at opening k all) k qs → Finds k qs e mid → AnswersName (moment k e)
 answers_name fits all opening k qs mid (Serves n now bytes) kept finds session xid a w =
-    let x = also_numbered qs k.sessions n came.0 (sym kept.made.1) came.3 in
-    let h = kept.sessions n x.0 came.0 x.1 came.3 in
-    let standing : stands k.server n ≡ true = h.stands_is ∙ ap not (unhung x.0 h x.0.hung refl) in
     let same : n ≡ session = session_is n session now w.now bytes w.bytes w.event_is in
+    let x = unhung (numbered k.sessions n) refl (ap (λ (i : ℕ). can_hang (numbered k.sessions i)) same ∙ w.stands) in
+    let q = also_numbered k.sessions qs n x.0 kept.made.1 x.1 in
+    let stood : stands k.server n ≡ not x.0.hung = elim (raw_or_owned x.0) [ inl raw ↦ (kept.strangers n x.0 q.0 x.1 q.1 raw).stands_is | inr owned ↦ (kept.sessions n x.0 q.0 x.1 q.1 owned).stands_is ] in
     let free : cond_fault a (temp_at k.server.temps n a.fd) ≡ None = ap (λ z. cond_fault a (temp_at k.server.temps z a.fd)) same ∙ w.free in
-    answers_by k n now bytes x.0 xid a x.1 standing (call_reads k n bytes xid (body.Lb (lb.CondWrite a)) reads) free ∙ ap (λ z. record { session = z; message = name_told xid (name_answer (known_in k.server a)) } ∷ []) same
+    answers_by k n now bytes x.0 xid a x.1 x.2 (stood ∙ ap not x.2) (call_reads k n bytes xid (body.Lb (lb.CondWrite a)) reads) free ∙ ap (λ z. record { session = z; message = name_told xid (name_answer (known_in k.server a)) } ∷ []) same
   where
     session_is : (n m i j : ℕ) (a b : List ℕ) → Serves n i a ≡ Serves m j b → n ≡ m
     session_is n m i j a b e = cc
@@ -63,15 +65,17 @@ answers_name fits all opening k qs mid (Serves n now bytes) kept finds session x
     reads : parse_of server_waiting bytes ≡ Ok (name_call xid a)
     reads = ap (parse_of server_waiting) (bytes_are n session now w.now bytes w.bytes w.event_is) ∙ w.call_is
 
-    came : FindsAsk qs n bytes mid
-    came = asked_only fits k qs n now bytes mid finds xid (body.Lb (lb.CondWrite a)) reads
-
-    unhung : (x : Session) → IsSession (book_at opening k all) k.seats k.server n x came.0 → (b : Bool) → x.hung ≡ b → x.hung ≡ false
-    unhung x h false e = e
-    unhung x h true e = absurd (none_is came.1 came.2 (sym came.4 ∙ h.lost e))
+    -- the session is there, and the server hasn't lost it
+    unhung : (o : Option Session) → numbered k.sessions n ≡ o → can_hang o ≡ true → (x : Session) × (numbered k.sessions n ≡ Some x) × (x.hung ≡ false)
+    unhung None at can = absurd cc
+    unhung (Some x) at can = (x, at, by x.hung refl can)
       where
-        none_is : (a : Ask) (us : List Ask) → a ∷ us ≡ [] → ⊥
-        none_is a us z = absurd cc
+        by : (b : Bool) → x.hung ≡ b → not x.hung ≡ true → x.hung ≡ false
+        by false e can = e
+        by true e can = absurd (not_true (sym (ap not e) ∙ can))
+          where
+            not_true : false ≡ true → ⊥
+            not_true z = absurd cc
 answers_name fits all opening k qs mid e kept f session xid a w = unserved e w.event_is (λ n now bytes z. absurd cc)
   where
     unserved : {A : Type 0} (e : Event) {n now : ℕ} {bytes : List ℕ} → e ≡ Serves n now bytes → ((n now : ℕ) (bytes : List ℕ) → e ≡ Serves n now bytes → A) → A
@@ -80,10 +84,10 @@ answers_name fits all opening k qs mid e kept f session xid a w = unserved e w.e
 -- ---- it had been sent
 
 abbrev AreSent : List Moment → Moment → Type 0
-AreSent all m = (session xid : ℕ) (a : CondPiece) → TakesName m session xid a → SentBefore all m session (name_call xid a)
+AreSent all m = (session xid : ℕ) (a : CondPiece) → TakesName m session xid a → ((x : Session) → numbered m.before.sessions session ≡ Some x → is_raw x ≡ false) → SentBefore all m session (name_call xid a)
 
 was_sent : FitLaws → (all past rest : List Moment) (opening : List Opening) (k : Core) (qs mid : List Queue) (n now : ℕ) (bytes : List ℕ) → all ≡ past ++ rest → IsKept (book_at opening k all) k qs → Finds k qs (Serves n now bytes) mid → UpsSent past k.steps qs → AreSent all (moment k (Serves n now bytes))
-was_sent fits all past rest opening k qs mid n now bytes split kept finds sent session xid a w = record {
+was_sent fits all past rest opening k qs mid n now bytes split kept finds sent session xid a w owned = record {
   moment = was.moment;
   there = subst (λ (l : List Moment). Contains l was.moment) (sym split) (Contains-append_left past rest was.moment was.there);
   before = (let le = was.by in omega (arith, le));
@@ -101,7 +105,7 @@ was_sent fits all past rest opening k qs mid n now bytes split kept finds sent s
     reads = ap (parse_of server_waiting) (bytes_are n session now w.now bytes w.bytes w.event_is) ∙ w.call_is
 
     f : FindsAsk qs n bytes mid
-    f = asked_only fits k qs n now bytes mid finds xid (body.Lb (lb.CondWrite a)) reads
+    f = asked_only fits k qs n now bytes mid finds (λ x at. owned x (ap (numbered k.sessions) (sym (session_is n session now w.now bytes w.bytes w.event_is)) ∙ at)) xid (body.Lb (lb.CondWrite a)) reads
 
     was : WasCalled past k.steps n f.1
     was = (subst (AllAsks (WasCalled past k.steps n)) f.4 (sent n f.0 f.3)).0
@@ -112,11 +116,11 @@ was_sent fits all past rest opening k qs mid n now bytes split kept finds sent s
     call : ask_message f.1 ≡ name_call xid a
     call =
         let x = also_numbered qs k.sessions n f.0 (sym kept.made.1) f.3 in
-        let fit = (subst (AllAsks (λ u. CallFits u.lbfs u.xid u.call)) f.4 (kept.sessions n x.0 f.0 x.1 f.3).ups_fit).0 in
+        let fit = (subst (AllAsks (λ u. CallFits u.lbfs u.xid u.call)) f.4 (kept.sessions n x.0 f.0 x.1 f.3 (owned_up kept n x.0 f.0 x.1 f.3 f.1 f.2 f.4)).ups_fit).0 in
         same_read (parse_of server_waiting bytes) (ask_message f.1) (name_call xid a) (ap (parse_of server_waiting) f.5 ∙ parsed fits f.1 fit) (ap (parse_of server_waiting) (bytes_are n session now w.now bytes w.bytes w.event_is) ∙ w.call_is)
 
 not_served : (all : List Moment) (k : Core) (e : Event) → ((n i : ℕ) (b : List ℕ) → e ≡ Serves n i b → ⊥) → AreSent all (moment k e)
-not_served all k e other session xid a w = absurd (other session w.now w.bytes w.event_is)
+not_served all k e other session xid a w owned = absurd (other session w.now w.bytes w.event_is)
 
 -- ---- a client is told
 
@@ -129,7 +133,7 @@ named_so book o x (Named a) r e w = by a r e w.1
     by a r e (inr failed) = inr (let same : r ≡ a = cc in same ∙ failed)
 named_so book o x p r e w = absurd cc
 
-are_told : FitLaws → (all past rest : List Moment) (opening : List Opening) (k : Core) (qs mid : List Queue) (n now : ℕ) (bytes : List ℕ) → all ≡ past ++ rest → IsKept (book_at opening k all) k qs → Heard k qs n now bytes mid → DownsSent past k.steps qs → ((m : Moment) → Contains past m → AreSent all m) → AreTold all (moment k (Hears n now bytes))
+are_told : FitLaws → (all past rest : List Moment) (opening : List Opening) (k : Core) (qs mid : List Queue) (n now : ℕ) (bytes : List ℕ) → all ≡ past ++ rest → IsKept (book_at opening k all) k qs → Heard k qs n now bytes mid → DownsSent past k.steps k.sessions qs → ((m : Moment) → Contains past m → AreSent all m) → AreTold all (moment k (Hears n now bytes))
 are_told fits all past rest opening k qs mid n now bytes split kept h sent asked session xid r (i, b, event, there) =
     subst (λ z. ToldOf all (moment k (Hears n now bytes)) z xid r) (session_is n session now i bytes b event)
     (by (client.has_call (client.pending h.seat.client.task) h.told.xid) (subst (λ (ms : List Message). Contains ms (name_told xid r)) taken there))
@@ -140,11 +144,11 @@ are_told fits all past rest opening k qs mid n now bytes split kept h sent asked
     taken : taken_by k (owner_in (numbered k.sessions n)) (Hears n now bytes) ≡ wanted_by h.seat.client (Ok (told_message h.told))
     taken = ap (λ z. taken_by k (owner_in z) (Hears n now bytes)) h.at ∙ heard_takes fits (book_at opening k all) k qs n now bytes mid kept h
 
-    was : WasSent past k.steps n h.told
-    was = (subst (AllTolds (WasSent past k.steps n)) h.first (sent n h.queue h.queue_is)).0
+    was : WasSent past k.steps k.sessions n h.told
+    was = (subst (AllTolds (WasSent past k.steps k.sessions n)) h.first (sent n h.queue h.queue_is)).0
 
     s : IsSession (book_at opening k all) k.seats k.server n h.session h.queue
-    s = kept.sessions n h.session h.queue h.at h.queue_is
+    s = kept.sessions n h.session h.queue h.at h.queue_is (has_owner k.seats h.session h.seat h.owner)
 
     wanted : IsWanted (book_at opening k all) (job s.seat) h.told
     wanted = (subst (AllTolds (IsWanted (book_at opening k all) (job s.seat))) h.first (s.orderly h.uncut).tolds).0
@@ -164,13 +168,13 @@ are_told fits all past rest opening k qs mid n now bytes split kept h sent asked
       there = subst (λ (l : List Moment). Contains l was.moment) (sym split) (Contains-append_left past rest was.moment was.there);
       before = (let le = was.by in omega (arith, le));
       piece = w.piece;
-      asked = asked was.moment was.there n xid w.piece (takes free);
+      asked = asked was.moment was.there n xid w.piece (takes free) (λ x at. was.owned x h.session at h.at (has_owner k.seats h.session h.seat h.owner));
       taken = takes free;
       answer_is = is;
     }
       where
         takes : cond_fault w.piece (temp_at was.moment.before.server.temps n w.piece.fd) ≡ None → TakesName was.moment n xid w.piece
-        takes free = record { now = w.now; bytes = w.bytes; event_is = w.event_is; call_is = w.call_is; free = free }
+        takes free = record { stands = w.stands; now = w.now; bytes = w.bytes; event_is = w.event_is; call_is = w.call_is; free = free }
     told_of w (inl done) (inl (e, fault, failed)) = failed_is r e done failed
     told_of w (inr unknown) (inl (e, fault, failed)) = absurd (fault_apart w.piece (temp_at was.moment.before.server.temps n w.piece.fd) (fault ∙ ap (λ z. Some z) (same_status r e failed unknown)))
 
@@ -277,7 +281,7 @@ not_done k e other client now file seat event here = absurd (other client now (c
 not_found : (k : Core) (e : Event) → taken_by k (client_of k e) e ≡ [] → AsksFound (moment k e)
 not_found k e none xid f seat here there = (let lt = (subst (λ (ms : List Message). Contains ms (found_told xid f)) none there).1 in absurd (omega (arith, lt)))
 
-saves : FitLaws → (all past rest : List Moment) (opening : List Opening) (k : Core) (qs : List Queue) (e : Event) (mid after : List Queue) → Step all past rest opening k qs e mid after → DownsSent past k.steps qs → UpsSent past k.steps qs → ((m : Moment) → Contains past m → AreSent all m) → Saves all (moment k e)
+saves : FitLaws → (all past rest : List Moment) (opening : List Opening) (k : Core) (qs : List Queue) (e : Event) (mid after : List Queue) → Step all past rest opening k qs e mid after → DownsSent past k.steps k.sessions qs → UpsSent past k.steps qs → ((m : Moment) → Contains past m → AreSent all m) → Saves all (moment k e)
 saves fits all past rest opening k qs e mid after s sent ups before = (answers_name fits all opening k qs mid e s.kept s.finds, told e s, asked e, found e s, called e s, asks_version (moment k e) speak)
   where
     speak : AllSpeak k
@@ -310,7 +314,7 @@ saves fits all past rest opening k qs e mid after s sent ups before = (answers_n
 -- ---- what a run carries
 
 pub record AllSaved (all past : List Moment) (opening : List Opening) (k : Core) (qs : List Queue) : Type 0 where
-  pub sent : DownsSent past k.steps qs
+  pub sent : DownsSent past k.steps k.sessions qs
   pub called : UpsSent past k.steps qs
   pub each : (m : Moment) → Contains past m → Saves all m
 
@@ -318,7 +322,7 @@ pub carried_saved : FitLaws → Carried AllSaved
 carried_saved fits = record {
   first = λ all opening tree count kept. record { sent = λ n q at. none_numbered n q at; called = λ n q at. none_numbered n q at; each = λ m there. (let lt = there.1 in absurd (omega (arith, lt))) };
   steps = λ all past rest opening k qs e mid after s h. record {
-    sent = subst (DownsSent (past ++ moment k e ∷ []) (happens k e).core.steps) (sym s.after_is) (sent_after past k qs mid e s.sends s.finds (ops_after_event fits all past rest opening k qs e mid after s).1 h.sent);
+    sent = subst (DownsSent (past ++ moment k e ∷ []) (happens k e).core.steps (happens k e).core.sessions) (sym s.after_is) (sent_after past k qs mid e s.sends (sym s.kept.made.1) s.finds (ops_after_event fits all past rest opening k qs e mid after s).1 h.sent);
     called = subst (UpsSent (past ++ moment k e ∷ []) (happens k e).core.steps) (sym s.after_is) (called_after past k qs mid e s.sends s.finds (ops_after_event fits all past rest opening k qs e mid after s).1 h.called);
     each = λ m there. elim (Contains-push_cases past (moment k e) m there) [
       | inl old ↦ h.each m old

@@ -1,9 +1,9 @@
 -- Each call on its way to the server was sent by a client, on that session, in a step before.
-use Rattle.std.proofs.Common.{inl, inr, ◌≡◌, ℕ, ◌≤◌, List, [], ◌∷◌, ◌++◌, Some, Bool, true, false, sym, ap, ◌∙◌, refl, Ok, subst, arith, map}
+use Rattle.std.proofs.Common.{inl, inr, ◌≡◌, ℕ, ◌≤◌, List, [], ◌∷◌, ◌++◌, Some, Bool, true, false, sym, ap, ◌∙◌, refl, Ok, subst, arith, map, ◌⊎◌}
 use Rattle.wire.specs.declared.message.Message.TheVariants as message
-use Rattle.kept_promise.proofs.Common.{Event.Serves, parse_of, server_waiting, Body, Message, calls_in, reply_message, Contains, Contains-append_left, Contains-append_right, Contains-append_cases, Contains-push, Contains-push_cases, Core, Event, CoreStep, happens, Moment, step_of, unless, Queue, Ask, ask_message}
+use Rattle.kept_promise.proofs.Common.{Event.Serves, parse_of, server_waiting, Body, Message, calls_in, reply_message, Contains, Contains-append_left, Contains-append_right, Contains-append_cases, Contains-push, Contains-push_cases, Core, Event, CoreStep, happens, Moment, step_of, unless, Queue, Ask, ask_message, Session, numbered, is_raw}
 use Rattle.kept_promise.proofs.SentDown.{all_sent, in_step, none_sent}
-use Rattle.kept_promise.proofs.Lists.{all_append, all_map, all_at}
+use Rattle.kept_promise.proofs.Lists.{all_append, all_map, all_at, true_and_false}
 use Rattle.kept_promise.proofs.Messages.{AllAsks}
 use Rattle.kept_promise.proofs.LeftCommits.{QueuesHave, have_ups, have_downs, have_lost, taken_off}
 use Rattle.kept_promise.proofs.Leading.{Sends, queues_lost, queues_after, ups_put}
@@ -86,10 +86,11 @@ call_asked (m ∷ ms) xid b c = elim (Contains-append_cases (m ∷ []) ms (messa
     behind (message.Refuse y d) h = h
     behind (message.Unfit y d) h = h
 
--- an answer to a RECALL is read as no call
-pub asked_only : FitLaws → (k : Core) (qs : List Queue) (n now : ℕ) (bytes : List ℕ) (mid : List Queue) → Finds k qs (Serves n now bytes) mid → (xid : ℕ) (b : Body) → parse_of server_waiting bytes ≡ Ok (message.Call xid b) → FindsAsk qs n bytes mid
-asked_only fits k qs n now bytes mid (inl f) xid b read = f
-asked_only fits k qs n now bytes mid (inr f) xid b read = absurd (no_call (reply_read fits server_waiting refl f.xid f.fits (message.Call xid b) (ap (parse_of server_waiting) (sym f.bytes_is) ∙ read)))
+-- of a client's session: an answer to a RECALL is read as no call
+pub asked_only : FitLaws → (k : Core) (qs : List Queue) (n now : ℕ) (bytes : List ℕ) (mid : List Queue) → Finds k qs (Serves n now bytes) mid → ((x : Session) → numbered k.sessions n ≡ Some x → is_raw x ≡ false) → (xid : ℕ) (b : Body) → parse_of server_waiting bytes ≡ Ok (message.Call xid b) → FindsAsk qs n bytes mid
+asked_only fits k qs n now bytes mid (inl f) owned xid b read = f
+asked_only fits k qs n now bytes mid (inr (inr f)) owned xid b read = absurd (true_and_false (is_raw f.0) f.2 (owned f.0 f.1))
+asked_only fits k qs n now bytes mid (inr (inl f)) owned xid b read = absurd (no_call (reply_read fits server_waiting refl f.xid f.fits (message.Call xid b) (ap (parse_of server_waiting) (sym f.bytes_is) ∙ read)))
   where
     no_call : false ≡ true → ⊥
     no_call e = absurd cc

@@ -2,9 +2,9 @@
 use Rattle.std.proofs.Common.{inl, inr, ◌≡◌, ℕ, ◌+◌, List, [], ◌∷◌, Some, Bool, true, false, refl, sym, ap, ◌∙◌, subst, ◌++◌}
 use Rattle.kept_promise.proofs.Common.{not, message_spell, Message, stands, got_if, Core, Session, Event.Serves, CoreStep, numbered, with_numbered, serves_if, serves, taken_with, quiet, happens, Book, Call, Call.Lease, Call.Hash, Call.Read, Call.Make, Call.Name, Call.Send, Call.Commit, Ask, Queue, ask_message, Call.Walks, at, ServerStep}
 use Rattle.server_core.specs.State as server
-use Rattle.kept_promise.proofs.Turns.{also_numbered}
+use Rattle.kept_promise.proofs.Turns.{also_numbered, unnoted, owned_up}
 use Rattle.kept_promise.proofs.Fits.{FitLaws}
-use Rattle.kept_promise.proofs.Serves.{parsed_at}
+use Rattle.kept_promise.proofs.Serves.{parsed_at, serves_as, leads_got}
 use Rattle.kept_promise.proofs.Calls.{Given, session_in, first_fits, rest_of, serve_lease, serve_hash, serve_read, serve_make, serve_send, serve_walk}
 use Rattle.kept_promise.proofs.Knowing.{serve_name}
 use Rattle.kept_promise.proofs.Commits.{serve_commit}
@@ -42,8 +42,8 @@ pub kept_serves : FitLaws → KeptServes
 kept_serves laws book k qs n now q a us kept is e noted = by (also_numbered qs k.sessions n q (sym kept.made.1) is)
   where
     given : (x : Session) → numbered k.sessions n ≡ Some x → (b : Bool) → x.hung ≡ b → Given book k qs n now x q a us
-    given x at false hung = record { kept = kept; at = at; is = is; first = e; unhung = hung; noted = noted }
-    given x at true hung = absurd (no_ups ((kept.sessions n x q at is).lost hung))
+    given x at false hung = record { kept = kept; at = at; is = is; owned = owned_up kept n x q at is a us e; first = e; unhung = hung; noted = noted }
+    given x at true hung = absurd (no_ups ((kept.sessions n x q at is (owned_up kept n x q at is a us e)).lost hung))
       where
         none_is : a ∷ us ≡ [] → ⊥
         none_is z = absurd cc
@@ -57,9 +57,10 @@ kept_serves laws book k qs n now q a us kept is e noted = by (also_numbered qs k
         let h = session_in book k qs n now x q a us g in
         let bytes = message_spell (ask_message a) in
         let standing : stands k.server n ≡ true = h.stands_is ∙ ap not g.unhung in
-        let is_turned : happens k (Serves n now bytes) ≡ got_by k n now x (ask_message a) true =
-        ap (serves k n now bytes) g.at ∙ ap (serves_if k n now x) (parsed_at laws k n a (first_fits book k qs n now x q a us g)) ∙ got_quiet k n now x (ask_message a) (is_of_files a (first_fits book k qs n now x q a us g) none) ∙ ap (got_by k n now x (ask_message a)) standing in
-        subst (Leads book (rest_of qs n q us)) (sym is_turned) (serve_call laws book k qs n now x q a.lbfs a.xid a.call us g none)
+        let read = parsed_at laws k n a (first_fits book k qs n now x q a us g) in
+        let is_turned : unnoted k (happens k (Serves n now bytes)) ≡ got_by k n now x (ask_message a) true =
+        ap (unnoted k) (serves_as k n now bytes x (ask_message a) g.at g.unhung read) ∙ got_quiet k n now x (ask_message a) (is_of_files a (first_fits book k qs n now x q a us g) none) ∙ ap (got_by k n now x (ask_message a)) standing in
+        leads_got book k (rest_of qs n q us) n now bytes x g.at g.owned (subst (Leads book (rest_of qs n q us)) (sym is_turned) (serve_call laws book k qs n now x q a.lbfs a.xid a.call us g none))
 
     by : (x : Session) × (numbered k.sessions n ≡ Some x) → Leads book (rest_of qs n q us) (happens k (Serves n now (message_spell (ask_message a))))
     by x = makes (makes_call a.call) refl

@@ -30,6 +30,7 @@ use Rattle.path_calls.specs.declared.walk.Walk.{Walk}
 use Rattle.kept_promise.proofs.PathNames.{IsWalkSmall, is_building}
 use Rattle.kept_promise.proofs.Makings.{made_by, called_making}
 use Rattle.kept_promise.proofs.CallsKeep.{IsOfFiles}
+use Rattle.kept_promise.proofs.Turns.{unnoted}
 
 -- ---- nothing is made
 
@@ -146,7 +147,7 @@ quiet_got k n now x m =
     let r = server_step k.server (event.Got n m now) in
     record (quiet (record k { steps = k.steps + 1; server = r.0; sessions = with_numbered k.sessions n (record x { taken = taken_with x.taken m (k.steps + 1) }) })) { down = r.1.send }
 
-pub got_quiet : (k : Core) (n now : ℕ) (x : Session) (m : Message) → IsOfFiles m → server_got k n now x m ≡ quiet_got k n now x m
+pub got_quiet : (k : Core) (n now : ℕ) (x : Session) (m : Message) → IsOfFiles m → unnoted k (server_got k n now x m) ≡ quiet_got k n now x m
 got_quiet k n now x m plain = ap (λ (o : List Op). with_both o (k.entries ++ replicate r.1.entries (k.steps + 1))) ops_same ∙ ap (with_both k.ops) entries_same
   where
     r : server.State × ServerStep
@@ -175,7 +176,7 @@ making_got k n now x xid p =
       entries = k.entries ++ replicate (count_of p.1.first p.1.second) (k.steps + 1);
     })) { down = record { session = n; message = message.Answer xid (body.Nfs p.1.answer) } ∷ [] }
 
-pub got_making : (k : Core) (n now : ℕ) (x : Session) (xid : ℕ) (w : Walk) → IsWalkSmall w → is_building w ≡ true → stands k.server n ≡ true → server_got k n now x (message.Call xid (body.Nfs (next_call w))) ≡ making_got k n now x xid (made_by k.server.tree (server.held k.server.waiting) w.dir w.goal)
+pub got_making : (k : Core) (n now : ℕ) (x : Session) (xid : ℕ) (w : Walk) → IsWalkSmall w → is_building w ≡ true → stands k.server n ≡ true → unnoted k (server_got k n now x (message.Call xid (body.Nfs (next_call w)))) ≡ making_got k n now x xid (made_by k.server.tree (server.held k.server.waiting) w.dir w.goal)
 got_making k n now x xid w small making standing =
     ap (λ (b : Bool). did (got_if k.server b n (message.Call xid (body.Nfs (next_call w))) now)) standing
     ∙ ap did (called_making (at k.server now) n xid w small making)

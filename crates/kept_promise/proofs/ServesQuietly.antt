@@ -1,5 +1,5 @@
 -- A call is taken at the server: clients are as they were, nothing goes up, and operations are as they were, but for one that made a file.
-use Rattle.std.proofs.Common.{◌⊎◌, inl, inr, ◌≡◌, ℕ, ◌+◌, ◌≤◌, List, [], ◌∷◌, ◌++◌, length, replicate, zero, suc, append-nil, Option, Some, None, Bool, true, false, Result, Ok, refl, sym, ap, ◌∙◌, subst, arith}
+use Rattle.std.proofs.Common.{◌⊎◌, inl, inr, ◌≡◌, ℕ, ◌+◌, ◌≤◌, List, [], ◌∷◌, ◌++◌, length, replicate, zero, suc, append-nil, Option, Some, None, Bool, true, false, Result, Ok, refl, sym, ap, ◌∙◌, subst, arith, Err}
 use Rattle.tree_reading.specs.Tree.{Tree}
 use Rattle.tree_reading.specs.Plans.{made_entry}
 use Rattle.tree_reading.specs.declared.entry.Entry.{Entry as TreeEntry}
@@ -9,15 +9,17 @@ use Rattle.path_calls.specs.declared.walk.Goal.{Goal}
 use Rattle.path_calls.specs.declared.walk.Walk.{Walk}
 use Rattle.register_model.specs.declared.op.Word.TheVariants as words
 use Rattle.server_core.specs.State as server
+use Rattle.server_core.specs.declared.event.Event.TheVariants as event
 use Rattle.server_core.specs.Closing.{entry_by as written_by, entries_by}
 use Rattle.tree_calls.specs.Changing.{said}
 use Rattle.path_calls.specs.Walk.{next_call}
 use Rattle.wire.specs.declared.message.Body.TheVariants as body
+use Rattle.wire.specs.declared.fault.WireFault.TheVariants as fault
 use Rattle.wire.specs.declared.message.Message.TheVariants as message
-use Rattle.server_law.proofs.lemmas.Trees.{IsBounded}
-use Rattle.trace_ends.specs.Core.{idles, server_got, changed_file, is_of_file}
+use Rattle.server_law.proofs.lemmas.Trees.{IsBounded, IsGiven, given}
+use Rattle.trace_ends.specs.Core.{idles, server_got, changed_file, is_of_file, newest_entries, serves_none}
 use Rattle.trace_ends.specs.Ops.{pointed_at, pointed}
-use Rattle.kept_promise.proofs.Common.{slice_get, slice_set, cond, option_map, not, stands, has_waiting, name_answer, Call, Call.Walks, Entry, Op, Message, WireFault, Core, Session, Event.Serves, CoreStep, numbered, serves_if, serves, happens, Book, Queue, Ask, ask_message}
+use Rattle.kept_promise.proofs.Common.{slice_get, slice_set, cond, option_map, not, stands, has_waiting, name_answer, Call, Call.Walks, Entry, Op, Message, WireFault, Core, Session, Event.Serves, CoreStep, numbered, serves_if, serves, happens, Book, Queue, Ask, ask_message, serves_unless, server_step, quiet, is_raw, loses, parse_of, server_waits}
 use Rattle.kept_promise.proofs.Lists.{some_is, nothing_there, true_and_false}
 use Rattle.kept_promise.proofs.Fits.{FitLaws}
 use Rattle.kept_promise.proofs.Messages.{job, goal_word, AllAsks, IsCommit, IsCreating}
@@ -36,6 +38,8 @@ use Rattle.kept_promise.proofs.GoingSteps.{waits_got, got_answered, got_waits}
 use Rattle.kept_promise.proofs.GoingServes.{names_none, names_unchanged}
 use Rattle.kept_promise.proofs.Actors.{serves_read, serves_fits}
 use Rattle.kept_promise.proofs.Replies.{reply_taken}
+use Rattle.kept_promise.proofs.Turns.{unnoted, owned_up, also_numbered}
+use Rattle.kept_promise.proofs.AnyCall.{any_entered, hung_journal, serves_plain}
 
 -- an operation made a file in this step, which is its point
 pub record MadeHere (k : Core) (after : List Op) : Type 0 where
@@ -140,7 +144,7 @@ making_ops book k qs n now x q lbfs xid w us kept h first making = by (made_walk
             })
 
 -- what a call that removes or renames leaves
-going_quiet : (k : Core) (n now : ℕ) (x : Session) (xid : ℕ) (w : Walk) → IsWalkSmall w → is_going w ≡ true → stands k.server n ≡ true → IsBounded k.server.tree → IsQuiet k (server_got k n now x (message.Call xid (body.Nfs (next_call w))))
+going_quiet : (k : Core) (n now : ℕ) (x : Session) (xid : ℕ) (w : Walk) → IsWalkSmall w → is_going w ≡ true → stands k.server n ≡ true → IsBounded k.server.tree → IsQuiet k (unnoted k (server_got k n now x (message.Call xid (body.Nfs (next_call w)))))
 going_quiet k n now x xid w small goes standing bounded = by (comes_so k.server.tree (server.held k.server.waiting) (has_waiting k.server.waiting n) w bounded small goes)
   where
     no_entries : (after : Tree) (d : Finished) → IsName d.first → IsName d.second → IsQuiet k (making_got k n now x xid (after, d))
@@ -153,10 +157,14 @@ going_quiet k n now x xid w small goes standing bounded = by (comes_so k.server.
       stays = λ i e at goes. true_and_false (is_of_file e.kind) (ap is_of_file goes) (names_none n d.first d.second first second i e at);
     }
 
-    by : ComesSo k.server.tree (server.held k.server.waiting) (has_waiting k.server.waiting n) w → IsQuiet k (server_got k n now x (message.Call xid (body.Nfs (next_call w))))
+    by : ComesSo k.server.tree (server.held k.server.waiting) (has_waiting k.server.waiting n) w → IsQuiet k (unnoted k (server_got k n now x (message.Call xid (body.Nfs (next_call w)))))
     by (refused s r is why turned leads procs) = subst (IsQuiet k) (sym (got_answered k n now x xid w k.server.tree (said (name_answer r)) small goes standing is)) (no_entries k.server.tree (said (name_answer r)) (λ e f. nothing_there e f) (λ e f. nothing_there e f))
     by (done_now done r after is step first second leads procs files none root next) = subst (IsQuiet k) (sym (got_answered k n now x xid w after (record { answer = name_answer r; first = done.first; second = done.second }) small goes standing is)) (no_entries after (record { answer = name_answer r; first = done.first; second = done.second }) first second)
     by (waits a g is asks there room free two) = subst (IsQuiet k) (sym (got_waits k n now x xid w a small goes standing is)) (record { ops = inl refl; seats = refl; passes = omega arith; up = refl; entered = none_entered k (waits_got k n now x xid a) refl refl; stays = λ i e at. nothing_there e at })
+
+-- what is noted of messages that came is nothing of it
+pub quiet_noted : (k : Core) (t : CoreStep) → IsQuiet k (unnoted k t) → IsQuiet k t
+quiet_noted k t h = record { ops = h.ops; seats = h.seats; passes = h.passes; up = h.up; entered = record { es = h.entered.es; entries = h.entered.entries; journal = h.entered.journal; plain = h.entered.plain }; stays = h.stays }
 
 ask_quiet : FitLaws → (book : Book) (k : Core) (qs : List Queue) (n now : ℕ) (bytes : List ℕ) (mid : List Queue) → IsKept book k qs → FindsAsk qs n bytes mid → IsQuiet k (happens k (Serves n now bytes))
 ask_quiet laws book k qs n now bytes mid kept f = by (numbered k.sessions n) refl
@@ -164,7 +172,7 @@ ask_quiet laws book k qs n now bytes mid kept f = by (numbered k.sessions n) ref
     fits : CallFits f.1.lbfs f.1.xid f.1.call
     fits = serves_fits book k qs n now bytes mid kept f
 
-    quietly : (x : Session) → makes_call f.1.call ≡ false → IsQuiet k (serves_if k n now x (Ok (ask_message f.1)))
+    quietly : (x : Session) → makes_call f.1.call ≡ false → IsQuiet k (unnoted k (serves_if k n now x (Ok (ask_message f.1))))
     quietly x none =
         subst (IsQuiet k) (sym (got_quiet k n now x (ask_message f.1) (is_of_files f.1 fits none)))
         (record { ops = inl refl; seats = refl; passes = omega arith; up = refl; entered = none_entered k (quiet_got k n now x (ask_message f.1)) refl (got_keeps (λ (z : server.State). z.journal ≡ k.server.journal) k.server n (ask_message f.1) now (is_of_files f.1 fits none) (λ temps waiting index leasing w. refl)); stays = λ i e at. nothing_there e at })
@@ -176,42 +184,100 @@ ask_quiet laws book k qs n now bytes mid kept f = by (numbered k.sessions n) ref
     unhung x a false e h first = e
     unhung x a true e h first = absurd (no_ups (sym (h.lost e) ∙ first))
 
-    building : (x : Session) → numbered k.sessions n ≡ Some x → (w : Walk) → is_building w ≡ true → f.1.call ≡ Walks w → IsQuiet k (serves_if k n now x (Ok (ask_message (record { lbfs = f.1.lbfs; xid = f.1.xid; call = Walks w }))))
+    building : (x : Session) → numbered k.sessions n ≡ Some x → (w : Walk) → is_building w ≡ true → f.1.call ≡ Walks w → IsQuiet k (unnoted k (serves_if k n now x (Ok (ask_message (record { lbfs = f.1.lbfs; xid = f.1.xid; call = Walks w })))))
     building x at w makes is =
-        let h = kept.sessions n x f.0 at f.3 in
+        let h = kept.sessions n x f.0 at f.3 (owned_up kept n x f.0 at f.3 f.1 f.2 f.4) in
         let first : f.0.ups ≡ record { lbfs = f.1.lbfs; xid = f.1.xid; call = Walks w } ∷ f.2 = f.4 ∙ ap (λ (c : Call). record { lbfs = f.1.lbfs; xid = f.1.xid; call = c } ∷ f.2) is in
         let fit = subst (CallFits f.1.lbfs f.1.xid) is fits in
         let entered = making_entered k n now x f.1.xid w makes in
         subst (IsQuiet k) (sym (got_making k n now x f.1.xid w fit.1 makes (h.stands_is ∙ ap not (unhung x (record { lbfs = f.1.lbfs; xid = f.1.xid; call = Walks w }) x.hung refl h first))))
         (record { ops = making_ops book k qs n now x f.0 f.1.lbfs f.1.xid w f.2 kept h first makes; seats = refl; passes = omega arith; up = refl; entered = entered.0; stays = entered.1 })
 
-    going : (x : Session) → numbered k.sessions n ≡ Some x → (w : Walk) → is_going w ≡ true → f.1.call ≡ Walks w → IsQuiet k (serves_if k n now x (Ok (ask_message (record { lbfs = f.1.lbfs; xid = f.1.xid; call = Walks w }))))
+    going : (x : Session) → numbered k.sessions n ≡ Some x → (w : Walk) → is_going w ≡ true → f.1.call ≡ Walks w → IsQuiet k (unnoted k (serves_if k n now x (Ok (ask_message (record { lbfs = f.1.lbfs; xid = f.1.xid; call = Walks w })))))
     going x at w goes is =
-        let h = kept.sessions n x f.0 at f.3 in
+        let h = kept.sessions n x f.0 at f.3 (owned_up kept n x f.0 at f.3 f.1 f.2 f.4) in
         let first : f.0.ups ≡ record { lbfs = f.1.lbfs; xid = f.1.xid; call = Walks w } ∷ f.2 = f.4 ∙ ap (λ (c : Call). record { lbfs = f.1.lbfs; xid = f.1.xid; call = c } ∷ f.2) is in
         let fit = subst (CallFits f.1.lbfs f.1.xid) is fits in
         going_quiet k n now x f.1.xid w fit.1 goes (h.stands_is ∙ ap not (unhung x (record { lbfs = f.1.lbfs; xid = f.1.xid; call = Walks w }) x.hung refl h first)) kept.server.bounded
 
-    making : (x : Session) → numbered k.sessions n ≡ Some x → (w : Walk) → is_making w ≡ true → f.1.call ≡ Walks w → IsQuiet k (serves_if k n now x (Ok (ask_message (record { lbfs = f.1.lbfs; xid = f.1.xid; call = Walks w }))))
+    making : (x : Session) → numbered k.sessions n ≡ Some x → (w : Walk) → is_making w ≡ true → f.1.call ≡ Walks w → IsQuiet k (unnoted k (serves_if k n now x (Ok (ask_message (record { lbfs = f.1.lbfs; xid = f.1.xid; call = Walks w })))))
     making x at w makes is = elim (making_is w.left w.goal makes) [ inl builds ↦ building x at w builds is | inr goes ↦ going x at w goes is ]
 
-    any : (x : Session) → numbered k.sessions n ≡ Some x → (b : Bool) → makes_call f.1.call ≡ b → IsQuiet k (serves_if k n now x (Ok (ask_message f.1)))
+    any : (x : Session) → numbered k.sessions n ≡ Some x → (b : Bool) → makes_call f.1.call ≡ b → IsQuiet k (unnoted k (serves_if k n now x (Ok (ask_message f.1))))
     any x at false none = quietly x none
     any x at true some =
         let w = walk_made f.1.call some in
-        subst (λ (c : Call). IsQuiet k (serves_if k n now x (Ok (ask_message (record { lbfs = f.1.lbfs; xid = f.1.xid; call = c }))))) (sym w.1) (making x at w.0 w.2 w.1)
+        subst (λ (c : Call). IsQuiet k (unnoted k (serves_if k n now x (Ok (ask_message (record { lbfs = f.1.lbfs; xid = f.1.xid; call = c })))))) (sym w.1) (making x at w.0 w.2 w.1)
 
     by : (x : Option Session) → numbered k.sessions n ≡ x → IsQuiet k (serves k n now bytes x)
     by None at = record { ops = inl refl; seats = refl; passes = omega arith; up = refl; entered = none_entered k (serves k n now bytes None) refl refl; stays = λ i e at. nothing_there e at }
-    by (Some x) at = subst (λ (r : Result Message WireFault). IsQuiet k (serves_if k n now x r)) (sym (serves_read laws book k qs n now bytes mid kept f)) (any x at (makes_call f.1.call) refl)
+    by (Some x) at =
+        let owned = owned_up kept n x f.0 at f.3 f.1 f.2 f.4 in
+        let stands = unhung x f.1 x.hung refl (kept.sessions n x f.0 at f.3 owned) f.4 in
+        quiet_noted k (serves k n now bytes (Some x)) (subst (λ (b : Bool). IsQuiet k (unnoted k (serves_unless k n now bytes x b))) (sym stands) (subst (λ (r : Result Message WireFault). IsQuiet k (unnoted k (serves_if k n now x r))) (sym (serves_read laws book k qs n now bytes mid kept f)) (any x at (makes_call f.1.call) refl)))
+
+-- ---- a session that is no client's
+
+-- no operation is pointed at by what it asks for, since it remembers no close
+pub raw_stays : (k : Core) (n now : ℕ) (bytes : List ℕ) (x : Session) → numbered k.sessions n ≡ Some x → x.closing ≡ None → (happens k (Serves n now bytes)).core.ops ≡ k.ops
+raw_stays k n now bytes x at closing = ap (λ (o : Option Session). (serves k n now bytes o).core.ops) at ∙ by x.hung
+  where
+    pointed_by : (o : Option ℕ) → pointed_at k.ops None (k.steps + 1) o ≡ k.ops
+    pointed_by None = refl
+    pointed_by (Some f) = refl
+
+    none : (e : WireFault) → (serves_none k n x e).core.ops ≡ k.ops
+    none (fault.UnknownXid xid) = refl
+    none _ = refl
+
+    read : (m : Result Message WireFault) → (serves_if k n now x m).core.ops ≡ k.ops
+    read (Ok m) =
+        let r = server_step k.server (event.Got n m now) in
+        let changed = changed_file (newest_entries r.0.journal r.1.entries) in
+        ap (λ (p : Option ℕ). pointed_at k.ops p (k.steps + 1) changed) closing ∙ pointed_by changed
+    read (Err e) = none e
+
+    by : (b : Bool) → (serves_unless k n now bytes x b).core.ops ≡ k.ops
+    by true = refl
+    by false = read (parse_of (server_waits k n) bytes)
+
+raw_entered : (k : Core) (n now : ℕ) (bytes : List ℕ) (x : Session) → IsGiven k.server.tree → EnteredStays k (serves k n now bytes (Some x))
+raw_entered k n now bytes x given_ = by x.hung
+  where
+    still : (t : CoreStep) → t.core.entries ≡ k.entries → t.core.server.journal ≡ k.server.journal → EnteredStays k t
+    still t entries journal = (none_entered k t entries journal, λ i e at. nothing_there e at)
+
+    none : (e : WireFault) → EnteredStays k (serves_none k n x e)
+    none (fault.UnknownXid xid) = still (serves_none k n x (fault.UnknownXid xid)) refl refl
+    none (fault.NotRpc place) = still (serves_none k n x (fault.NotRpc place)) refl (hung_journal k.server n (stands k.server n))
+    none (fault.Garbage place) = still (serves_none k n x (fault.Garbage place)) refl (hung_journal k.server n (stands k.server n))
+
+    read : (m : Result Message WireFault) → EnteredStays k (serves_if k n now x m)
+    read (Ok m) =
+        let g = any_entered k.server n m now (stands k.server n) given_ in
+        (record { es = g.0; entries = ap (λ (c : ℕ). k.entries ++ replicate c (k.steps + 1)) g.2; journal = g.1; plain = λ i e at commit. (g.3 i e at).0 commit }, λ i e at goes. (g.3 i e at).1 goes)
+    read (Err e) = none e
+
+    by : (b : Bool) → EnteredStays k (serves_unless k n now bytes x b)
+    by true = still (quiet k) refl refl
+    by false = read (parse_of (server_waits k n) bytes)
+
+raw_quiet : (book : Book) (k : Core) (qs : List Queue) (n now : ℕ) (bytes : List ℕ) (x : Session) → numbered k.sessions n ≡ Some x → is_raw x ≡ true → IsKept book k qs → IsQuiet k (happens k (Serves n now bytes))
+raw_quiet book k qs n now bytes x at raw kept =
+    let q = also_numbered k.sessions qs n x kept.made.1 at in
+    let stays = raw_stays k n now bytes x at (kept.strangers n x q.0 at q.1 raw).closing in
+    let e = subst (λ (o : Option Session). EnteredStays k (serves k n now bytes o)) (sym at) (raw_entered k n now bytes x (given k.server.tree kept.server.bounded)) in
+    let rest = serves_plain k n now bytes (numbered k.sessions n) in
+    record { ops = inl stays; seats = rest.1; passes = rest.2; up = rest.0; entered = e.0; stays = e.1 }
 
 -- so is an answer to a RECALL
 pub serves_quiet : FitLaws → (book : Book) (k : Core) (qs : List Queue) (n now : ℕ) (bytes : List ℕ) (mid : List Queue) → IsKept book k qs → Finds k qs (Serves n now bytes) mid → IsQuiet k (happens k (Serves n now bytes))
 serves_quiet laws book k qs n now bytes mid kept (inl f) = ask_quiet laws book k qs n now bytes mid kept f
-serves_quiet laws book k qs n now bytes mid kept (inr f) =
-    let taken = reply_taken laws k qs n now bytes mid f in
-    let t : CoreStep = idles (record k { server = record k.server { leasing = taken.0 } }) in
-    subst (IsQuiet k) (sym taken.1) (record { ops = inl refl; seats = refl; passes = omega arith; up = refl; entered = none_entered k t refl refl; stays = λ i e at. nothing_there e at })
+serves_quiet laws book k qs n now bytes mid kept (inr (inr f)) = raw_quiet book k qs n now bytes f.0 f.1 f.2 kept
+serves_quiet laws book k qs n now bytes mid kept (inr (inl f)) = elim (reply_taken laws k qs n now bytes mid f) [
+  | inl taken ↦ (let t : CoreStep = idles (record k { server = record k.server { leasing = taken.0 } }) in quiet_noted k (happens k (Serves n now bytes)) (subst (IsQuiet k) (sym taken.1) (record { ops = inl refl; seats = refl; passes = omega arith; up = refl; entered = none_entered k t refl refl; stays = λ i e at. nothing_there e at })))
+  | inr lost ↦ subst (IsQuiet k) (sym lost) (record { ops = inl refl; seats = refl; passes = omega arith; up = refl; entered = none_entered k (loses k n f.session) refl (hung_journal k.server n (stands k.server n)); stays = λ i e at. nothing_there e at })
+]
 
 -- ---- a call that may change no file
 
@@ -243,7 +309,7 @@ serves_still laws book k qs n now bytes mid kept f zero_ = by (numbered k.sessio
 
     building : (x : Session) → numbered k.sessions n ≡ Some x → (w : Walk) → is_building w ≡ true → f.1.call ≡ Walks w → (serves_if k n now x (Ok (ask_message (record { lbfs = f.1.lbfs; xid = f.1.xid; call = Walks w })))).core.ops ≡ k.ops
     building x at w makes is =
-        let h = kept.sessions n x f.0 at f.3 in
+        let h = kept.sessions n x f.0 at f.3 (owned_up kept n x f.0 at f.3 f.1 f.2 f.4) in
         let fit = subst (CallFits f.1.lbfs f.1.xid) is fits in
         ap (λ (t : CoreStep). t.core.ops) (got_making k n now x f.1.xid w fit.1 makes (h.stands_is ∙ ap not (unhung x x.hung refl h))) ∙ making_still k n now x f.1.xid w makes (creates_none w is (is_creating w) refl)
 
@@ -261,4 +327,4 @@ serves_still laws book k qs n now bytes mid kept f zero_ = by (numbered k.sessio
 
     by : (x : Option Session) → numbered k.sessions n ≡ x → (serves k n now bytes x).core.ops ≡ k.ops
     by None at = refl
-    by (Some x) at = ap (λ (r : Result Message WireFault). (serves_if k n now x r).core.ops) (serves_read laws book k qs n now bytes mid kept f) ∙ any x at (makes_call f.1.call) refl
+    by (Some x) at = ap (λ (b : Bool). (serves_unless k n now bytes x b).core.ops) (unhung x x.hung refl (kept.sessions n x f.0 at f.3 (owned_up kept n x f.0 at f.3 f.1 f.2 f.4))) ∙ ap (λ (r : Result Message WireFault). (serves_if k n now x r).core.ops) (serves_read laws book k qs n now bytes mid kept f) ∙ any x at (makes_call f.1.call) refl

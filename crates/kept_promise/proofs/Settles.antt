@@ -16,7 +16,7 @@ use Rattle.register_model.specs.declared.op.Outcome.TheVariants as told
 use Rattle.register_model.specs.declared.op.Word.TheVariants as words
 use Rattle.register_model.specs.Register.{IsFit}
 use Rattle.trace_replay.specs.Faithful.{IsKind, left_by as left_of}
-use Rattle.kept_promise.proofs.Common.{slice_get, slice_set, cond, ◌==◌, sha1, Done, Failed, at, FileChange, File, Entry, Fetch, Stage, Op, Core, Seat, Session, numbered, with_numbered, settled_ops, settled_by, pointed, pointed_at, unless, Book, Or, value_at, Reply, Reply.Versioned, Reply.Hashed, Reply.Bytes, Reply.Made, Reply.Named, Reply.Stored, Reply.Changed, Told, Queue, reply_program, Tree, Reply.Walked, Word, Value, value_from, unwrap_or, changes, Wanted, Event.Settles, happens}
+use Rattle.kept_promise.proofs.Common.{slice_get, slice_set, cond, ◌==◌, sha1, Done, Failed, at, FileChange, File, Entry, Fetch, Stage, Op, Core, Seat, Session, numbered, with_numbered, settled_ops, settled_by, pointed, pointed_at, unless, Book, Or, value_at, Reply, Reply.Versioned, Reply.Hashed, Reply.Bytes, Reply.Made, Reply.Named, Reply.Stored, Reply.Changed, Told, Queue, reply_program, Tree, Reply.Walked, Word, Value, value_from, unwrap_or, changes, Wanted, Event.Settles, happens, is_raw}
 use Rattle.server_core.specs.Recalling.{term_at}
 use Rattle.kept_promise.proofs.Recallings.{term_small}
 use Rattle.kept_promise.proofs.Lists.{some_is, nothing_there, same_or_not, at_end, at_replaced, of_replaced}
@@ -27,7 +27,7 @@ use Rattle.kept_promise.proofs.Growth.{Grows, or_map, made_later, or_later, ther
 use Rattle.kept_promise.proofs.History.{made_op, IsEntryOf, grows_made, goes_made, value_now, version_now, made_book}
 use Rattle.trace_ends.specs.Core.{newest_entries, changed_file}
 use Rattle.kept_promise.proofs.ServesFiles.{newest_one}
-use Rattle.kept_promise.proofs.Turns.{also_numbered, turned_core}
+use Rattle.kept_promise.proofs.Turns.{also_numbered, turned_core, unnoted, raw_or_owned, came_same}
 use Rattle.kept_promise.proofs.Fits.{FitLaws}
 use Rattle.kept_promise.proofs.OrderSteps.{keys_once}
 use Rattle.kept_promise.proofs.Facts.{IsValue, FileIs, IsTalk, IsKept, IsWanted}
@@ -40,12 +40,14 @@ use Rattle.kept_promise.proofs.NoZero.{replaced_none}
 use Rattle.kept_promise.proofs.MadeFiles.{file_alike, others_alike, own_alike, gone_fresh}
 use Rattle.kept_promise.proofs.Rooted.{replaced_rooted}
 use Rattle.kept_promise.proofs.Unused.{unused_replaced}
-use Rattle.kept_promise.proofs.TakenOut.{IsOut, SettlesOut, settled_to, WhatSettles, settles_one, settles_none, what_settles}
+use Rattle.kept_promise.proofs.TakenOut.{IsOut, SettlesOut, settled_to, WhatSettles, settles_one, settles_none, what_settles, owned_raws}
 use Rattle.kept_promise.proofs.GoingSettles.{kept_told}
 use Rattle.kept_promise.proofs.GoingEnds.{ends_so}
-use Rattle.kept_promise.proofs.Departures.{settles_so}
+use Rattle.kept_promise.proofs.Departures.{settles_so, asks_itself}
 use Rattle.kept_promise.proofs.Gone.{no_directory}
 use Rattle.kept_promise.proofs.Unmade.{node_gone, unmade_settles, leads_unmade}
+use Rattle.kept_promise.proofs.Hangs.{leads_noted}
+use Rattle.kept_promise.proofs.RawSettles.{raw_settles}
 
 -- ---- the tree
 
@@ -149,12 +151,12 @@ settled_answers book e j o c waits cs x q seat what g out committing t = all_but
 abbrev settled_server : server.State → (now : ℕ) → FileChange → List FileChange → File → server.State
 settled_server s now c cs f = (made_change (at (record s { waiting = cs }) now) c (content_wanted c.what) f).0
 
-settled_now : FitLaws → (book : Book) (k : Core) (qs : List Queue) (now : ℕ) (c : FileChange) (cs : List FileChange) (f : File) (x : Session) (q : Queue) (j : ℕ) (o : Op) → (kept : IsKept book k qs) → IsOut k.server.waiting c cs → c.what ≡ wanted.Content (content_wanted c.what) → the_files.file_at k.server.tree c.file ≡ Some f → (here : numbered k.sessions c.session ≡ Some x) → x.hung ≡ false → (is : numbered qs c.session ≡ Some q)
-    → (pending : IsPending book x.closing x.cut (job (kept.sessions c.session x q here is).seat) c.xid c.file (content_wanted c.what)) → pending.place ≡ j → pending.op ≡ o
+settled_now : FitLaws → (book : Book) (k : Core) (qs : List Queue) (now : ℕ) (c : FileChange) (cs : List FileChange) (f : File) (x : Session) (q : Queue) (j : ℕ) (o : Op) → (kept : IsKept book k qs) → IsOut k.server.waiting c cs → c.what ≡ wanted.Content (content_wanted c.what) → the_files.file_at k.server.tree c.file ≡ Some f → (here : numbered k.sessions c.session ≡ Some x) → x.hung ≡ false → (is : numbered qs c.session ≡ Some q) → (owned : is_raw x ≡ false)
+    → (pending : IsPending book x.closing x.cut (job (kept.sessions c.session x q here is owned).seat) c.xid c.file (content_wanted c.what)) → pending.place ≡ j → pending.op ≡ o
     → IsKept (made_book book (entry_of c (content_wanted c.what) f ∷ []) j c.file o) (turned_core k (made_book book (entry_of c (content_wanted c.what) f ∷ []) j c.file o) (settled_server k.server now c cs f) k.seats k.sessions) (with_numbered qs c.session (record q { downs = unless x.cut q.downs (answer c (f.version + 1) (told_term k.server c cs) ∷ []) }))
-settled_now laws book k qs now c cs f x q j o kept out what there here unhung is pending place_is op_is =
+settled_now laws book k qs now c cs f x q j o kept out what there here unhung is owned pending place_is op_is =
     let n : ℕ = c.session in
-    let h = kept.sessions n x q here is in
+    let h = kept.sessions n x q here is owned in
     let e : Entry = entry_of c (content_wanted c.what) f in
     let at_ : slice_get book.ops j ≡ Some o = subst (λ (z : ℕ). slice_get book.ops z ≡ Some o) place_is (pending.there ∙ ap (λ (z : Op). Some z) op_is) in
     let known : x.closing ≡ Some j = pending.known ∙ ap (λ (z : ℕ). Some z) place_is in
@@ -205,7 +207,7 @@ settled_now laws book k qs now c cs f x q j o kept out what there here unhung is
       },
       (book.steps + 2, omega arith, version_now book (e ∷ []) c.file j o at_ unmade kept.sound ∙ ap (λ (z : ℕ). z + 1) own_file.4, value_now book (e ∷ []) c.file j o at_ unmade kept.sound ∙ ap (λ (w : Word). value_from w o.value) word),
     ) in
-    kept_told book more k qs now c cs x q r.leasing r.tree r.journal r.index (Changed (Done (record { version = version; term = told_term k.server c cs }))) (Some j) kept out here is (record {
+    kept_told book more k qs now c cs x q r.leasing r.tree r.journal r.index (Changed (Done (record { version = version; term = told_term k.server c cs }))) (Some j) kept out here is owned (record {
       goes = goes;
       server = record {
         held = held;
@@ -225,7 +227,7 @@ settled_now laws book k qs now c cs f x q j o kept out what there here unhung is
       journal_is = ap (λ (l : List Entry). l ++ e ∷ []) kept.journal;
       made_here = λ z w. known ∙ w;
       key_is = answer_key c (content_wanted c.what) version (told_term k.server c cs) what;
-      fits = laws.plain book.lbfs c.xid (Changed (Done (record { version = version; term = told_term k.server c cs }))) (kept.server.xids out.place c out.there) (let a = (file_bounded k.server.tree c.file f kept.server.bounded there).0 in omega (arith, a, entries), term_small k.server.leasing.term cs (Some c.file) kept.server.leases);
+      fits = laws.plain book.lbfs c.xid (Changed (Done (record { version = version; term = told_term k.server c cs }))) (kept.server.xids out.place c out.there) (let a = (file_bounded k.server.tree c.file f kept.server.bounded there).0 in omega (arith, a, entries), term_small k.server.leasing.term cs (Some c.file) kept.server.leases.0);
       answers = λ uncut. settled_answers book e j o c k.server.waiting cs x q h.seat what g out (committing uncut) (h.talk uncut);
       answer = λ uncut i z w. subst (λ (u : Job). CommitTold more x.closing u (Done (record { version = version; term = told_term k.server c cs }))) (some_is (record { place = j; file = c.file; stage = stage.Committing c.xid }) i (sym (committing uncut) ∙ z)) made;
       closes = λ uncut i w. close_made more uncut i w (h.closes uncut i w);
@@ -246,25 +248,25 @@ settled_now laws book k qs now c cs f x q j o kept out what there here unhung is
     pending_unmade : IsUnmade o
     pending_unmade = subst IsUnmade op_is pending.unmade
 
-    committing : x.cut ≡ false → job (kept.sessions c.session x q here is).seat ≡ Some (record { place = j; file = c.file; stage = stage.Committing c.xid })
-    committing uncut = subst (λ (z : ℕ). job (kept.sessions c.session x q here is).seat ≡ Some (record { place = z; file = c.file; stage = stage.Committing c.xid })) place_is (pending.waited uncut)
+    committing : x.cut ≡ false → job (kept.sessions c.session x q here is owned).seat ≡ Some (record { place = j; file = c.file; stage = stage.Committing c.xid })
+    committing uncut = subst (λ (z : ℕ). job (kept.sessions c.session x q here is owned).seat ≡ Some (record { place = z; file = c.file; stage = stage.Committing c.xid })) place_is (pending.waited uncut)
 
-    close_made : (more : Book) → x.cut ≡ false → (i : Job) → job (kept.sessions c.session x q here is).seat ≡ Some i
-        → CloseOf book x.closing (kept.sessions c.session x q here is).contents (kept.sessions c.session x q here is).seat.client.next_temp i (client.local_bytes (kept.sessions c.session x q here is).seat.client.opened i.file) i.stage
-        → CloseOf (made_book book (entry_of c (content_wanted c.what) f ∷ []) j c.file o) x.closing (kept.sessions c.session x q here is).contents (kept.sessions c.session x q here is).seat.client.next_temp i (client.local_bytes (kept.sessions c.session x q here is).seat.client.opened i.file) i.stage
+    close_made : (more : Book) → x.cut ≡ false → (i : Job) → job (kept.sessions c.session x q here is owned).seat ≡ Some i
+        → CloseOf book x.closing (kept.sessions c.session x q here is owned).contents (kept.sessions c.session x q here is owned).seat.client.next_temp i (client.local_bytes (kept.sessions c.session x q here is owned).seat.client.opened i.file) i.stage
+        → CloseOf (made_book book (entry_of c (content_wanted c.what) f ∷ []) j c.file o) x.closing (kept.sessions c.session x q here is owned).contents (kept.sessions c.session x q here is owned).seat.client.next_temp i (client.local_bytes (kept.sessions c.session x q here is owned).seat.client.opened i.file) i.stage
     close_made more uncut i w h =
         let own : Job = record { place = j; file = c.file; stage = stage.Committing c.xid } in
         let same : own ≡ i = some_is own i (sym (committing uncut) ∙ w) in
         committed i (sym (ap (λ (z : Job). z.stage) same)) (sym (ap (λ (z : Job). z.place) same)) h
       where
-        committed : (i : Job) → i.stage ≡ stage.Committing c.xid → i.place ≡ j → CloseOf book x.closing (kept.sessions c.session x q here is).contents (kept.sessions c.session x q here is).seat.client.next_temp i (client.local_bytes (kept.sessions c.session x q here is).seat.client.opened i.file) i.stage
-            → CloseOf (made_book book (entry_of c (content_wanted c.what) f ∷ []) j c.file o) x.closing (kept.sessions c.session x q here is).contents (kept.sessions c.session x q here is).seat.client.next_temp i (client.local_bytes (kept.sessions c.session x q here is).seat.client.opened i.file) i.stage
+        committed : (i : Job) → i.stage ≡ stage.Committing c.xid → i.place ≡ j → CloseOf book x.closing (kept.sessions c.session x q here is owned).contents (kept.sessions c.session x q here is owned).seat.client.next_temp i (client.local_bytes (kept.sessions c.session x q here is owned).seat.client.opened i.file) i.stage
+            → CloseOf (made_book book (entry_of c (content_wanted c.what) f ∷ []) j c.file o) x.closing (kept.sessions c.session x q here is owned).contents (kept.sessions c.session x q here is owned).seat.client.next_temp i (client.local_bytes (kept.sessions c.session x q here is owned).seat.client.opened i.file) i.stage
         committed i s p h =
-            let v = client.local_bytes (kept.sessions c.session x q here is).seat.client.opened i.file in
-            let old : CloseOf book x.closing (kept.sessions c.session x q here is).contents (kept.sessions c.session x q here is).seat.client.next_temp i v (stage.Committing c.xid) = subst (λ (z : Stage). CloseOf book x.closing (kept.sessions c.session x q here is).contents (kept.sessions c.session x q here is).seat.client.next_temp i v z) s h in
+            let v = client.local_bytes (kept.sessions c.session x q here is owned).seat.client.opened i.file in
+            let old : CloseOf book x.closing (kept.sessions c.session x q here is owned).contents (kept.sessions c.session x q here is owned).seat.client.next_temp i v (stage.Committing c.xid) = subst (λ (z : Stage). CloseOf book x.closing (kept.sessions c.session x q here is owned).contents (kept.sessions c.session x q here is owned).seat.client.next_temp i v z) s h in
             let g = grows_made book (entry_of c (content_wanted c.what) f ∷ []) c.file j o (λ close. sym pending_file) pending_there pending_unmade in
             let r = g.each i.place old.0 old.1 in
-            subst (λ (z : Stage). CloseOf (made_book book (entry_of c (content_wanted c.what) f ∷ []) j c.file o) x.closing (kept.sessions c.session x q here is).contents (kept.sessions c.session x q here is).seat.client.next_temp i v z) (sym s) (r.0, r.1, r.2.word ∙ old.2, r.2.value (ap changes old.2) ∙ old.3)
+            subst (λ (z : Stage). CloseOf (made_book book (entry_of c (content_wanted c.what) f ∷ []) j c.file o) x.closing (kept.sessions c.session x q here is owned).contents (kept.sessions c.session x q here is owned).seat.client.next_temp i v z) (sym s) (r.0, r.1, r.2.word ∙ old.2, r.2.value (ap changes old.2) ∙ old.3)
 
     still_runs : (z : ℕ) (u : Op) → slice_get (slice_set book.ops j (made_op book c.file o)) z ≡ Some u → u.outcome ≡ told.Running → (e : Seat) × (g : Job) × (numbered k.seats u.client ≡ Some e) × (job e ≡ Some g) × (g.place ≡ z)
     still_runs z u w run = elim (of_replaced book.ops j (made_op book c.file o) z u w) [
@@ -283,19 +285,18 @@ settled_core book more k r ops entries a b c =
 queue_told : (sessions : List Session) (qs : List Queue) (n : ℕ) (x : Session) (q : Queue) (t : Told) → numbered sessions n ≡ Some x → numbered qs n ≡ Some q → downs_put sessions qs ((n, t) ∷ []) ≡ with_numbered qs n (record q { downs = unless x.cut q.downs (t ∷ []) })
 queue_told sessions qs n x q t at is = ap (λ (o : Option Session). downs_put_in qs (n, t) o (numbered qs n)) at ∙ ap (λ (o : Option Queue). downs_put_in qs (n, t) (Some x) o) is
 
-settled_leads : FitLaws → (book : Book) (k : Core) (qs : List Queue) (now : ℕ) (c : FileChange) (cs : List FileChange) (f : File) → IsKept book k qs → IsOut k.server.waiting c cs → c.what ≡ wanted.Content (content_wanted c.what) → the_files.file_at k.server.tree c.file ≡ Some f → Leads book qs (settled_to k (made_change (at (record k.server { waiting = cs }) now) c (content_wanted c.what) f))
-settled_leads laws book k qs now c cs f kept out what there =
+settled_leads : FitLaws → (book : Book) (k : Core) (qs : List Queue) (now : ℕ) (c : FileChange) (cs : List FileChange) (f : File) → IsKept book k qs → IsOut k.server.waiting c cs → c.what ≡ wanted.Content (content_wanted c.what) → the_files.file_at k.server.tree c.file ≡ Some f → (home : (x : Session) × (numbered k.sessions c.session ≡ Some x) × (x.hung ≡ false)) → is_raw home.0 ≡ false → Leads book qs (settled_to k (made_change (at (record k.server { waiting = cs }) now) c (content_wanted c.what) f))
+settled_leads laws book k qs now c cs f kept out what there home owned =
     let n : ℕ = c.session in
-    let home = kept.home out.place c out.there in
     let x : Session = home.0 in
     let q = also_numbered k.sessions qs n x kept.made.1 home.1 in
-    let h = kept.sessions n x q.0 home.1 q.1 in
+    let h = kept.sessions n x q.0 home.1 q.1 owned in
     let pending = subst (λ (w : Wanted). WaitsFor book c.session x.closing x.cut (job h.seat) c.xid c.file w) what (h.pending 0 c (ap (λ (l : List FileChange). slice_get l 0) out.mine)) in
     let j : ℕ = pending.place in
     let o : Op = pending.op in
     let t : Told = answer c (f.version + 1) (told_term k.server c cs) in
     let more = made_book book (entry_of c (content_wanted c.what) f ∷ []) j c.file o in
-    let now_kept = settled_now laws book k qs now c cs f x q.0 j o kept out what there home.1 home.2 q.1 pending refl refl in
+    let now_kept = settled_now laws book k qs now c cs f x q.0 j o kept out what there home.1 home.2 q.1 owned pending refl refl in
     let changed : Option ℕ = changed_file (newest_entries (settled_server k.server now c cs f).journal 1) in
     let ops_is : settled_by k changed (told_.Settled n c.xid) ≡ more.ops =
     ap (λ (z : Option ℕ). settled_by k z (told_.Settled n c.xid)) (newest_one k.server.journal (entry_of c (content_wanted c.what) f))
@@ -307,7 +308,7 @@ settled_leads laws book k qs now c cs f kept out what there =
     let entries_is : more.entries ≡ k.entries ++ (k.steps + 1) ∷ [] = ap (λ (es : List ℕ). es ++ (book.steps + 1) ∷ []) kept.entries ∙ ap (λ (s : ℕ). k.entries ++ (s + 1) ∷ []) kept.steps in
     let core = settled_core book more k (settled_server k.server now c cs f) (settled_by k changed (told_.Settled n c.xid)) (k.entries ++ (k.steps + 1) ∷ []) (ap (λ s. s + 1) kept.steps) (sym ops_is) entries_is in
     record {
-      sends = record { replies = []; replies_fit = tt; asks = []; up_is = refl; recalls = []; recalls_fit = tt; tolds = (n, t) ∷ []; down_is = refl };
+      sends = record { replies = []; replies_fit = tt; asks = []; up_is = refl; strays = []; strays_cut = tt; recalls = []; recalls_fit = tt; tolds = (n, t) ∷ []; down_is = refl };
       more = more;
       moments = refl;
       opening = refl;
@@ -316,31 +317,25 @@ settled_leads laws book k qs now c cs f kept out what there =
 
 -- ---- whatever is taken out
 
-asks_itself : (a : Asked) → AsksFor (walk_for a) a
-asks_itself (asked.Remove r) = (refl, refl, refl)
-asks_itself (asked.Rename r) = (refl, refl, refl)
-
 -- a commit, by whether its file is there
-settled_commit : FitLaws → (book : Book) (k : Core) (qs : List Queue) (now : ℕ) (c : FileChange) (cs : List FileChange) (content : List ℕ) → IsKept book k qs → SettlesOut k now c cs → c.what ≡ wanted.Content content → (o : Option File) → the_files.file_at k.server.tree c.file ≡ o → Leads book qs (happens k (Settles now))
-settled_commit laws book k qs now c cs content kept out what (Some f) there =
+settled_commit : FitLaws → (book : Book) (k : Core) (qs : List Queue) (now : ℕ) (c : FileChange) (cs : List FileChange) (content : List ℕ) → IsKept book k qs → SettlesOut k now c cs → c.what ≡ wanted.Content content → (home : (x : Session) × (numbered k.sessions c.session ≡ Some x) × (x.hung ≡ false)) → is_raw home.0 ≡ false → (o : Option File) → the_files.file_at k.server.tree c.file ≡ o → Leads book qs (unnoted k (happens k (Settles now)))
+settled_commit laws book k qs now c cs content kept out what home owned (Some f) there =
     let wants = what ∙ ap (λ (x : List ℕ). wanted.Content x) (sym (ap content_wanted what)) in
-    subst (Leads book qs) (sym (out.is ∙ ap (settled_to k) (made_is book k.server now c cs f kept.server out.out there wants))) (settled_leads laws book k qs now c cs f kept out.out wants there)
-settled_commit laws book k qs now c cs content kept out what None none =
-    let home = kept.home out.out.place c out.out.there in
+    subst (Leads book qs) (sym (out.is ∙ ap (settled_to k) (made_is book k.server now c cs f kept.server out.out there wants))) (settled_leads laws book k qs now c cs f kept out.out wants there home owned)
+settled_commit laws book k qs now c cs content kept out what home owned None none =
     let q = also_numbered k.sessions qs c.session home.0 kept.made.1 home.1 in
-    let h = kept.sessions c.session home.0 q.0 home.1 q.1 in
+    let h = kept.sessions c.session home.0 q.0 home.1 q.1 owned in
     let pending = subst (λ (w : Wanted). WaitsFor book c.session home.0.closing home.0.cut (job h.seat) c.xid c.file w) what (h.pending 0 c (ap (λ (l : List FileChange). slice_get l 0) out.out.mine)) in
-    subst (Leads book qs) (sym (unmade_settles k now c cs content out what (node_gone book k.server c.file kept.server (kept.server.targets out.out.place c out.out.there) none))) (leads_unmade laws book k qs now c cs content kept out what none home.0 q.0 home.1 home.2 q.1 pending)
+    subst (Leads book qs) (sym (unmade_settles k now c cs content out what (node_gone book k.server c.file kept.server (kept.server.targets out.out.place c out.out.there) none))) (leads_unmade laws book k qs now c cs content kept out what none home.0 q.0 home.1 home.2 q.1 owned pending)
 
 -- a remove, or a rename over a file
-settled_asked : FitLaws → (book : Book) (k : Core) (qs : List Queue) (now : ℕ) (c : FileChange) (cs : List FileChange) (a : Asked) → IsKept book k qs → IsNoted book k (Settles now) → SettlesOut k now c cs → c.what ≡ wanted.Asked a → Leads book qs (happens k (Settles now))
-settled_asked laws book k qs now c cs a kept noted out what =
-    let home = kept.home out.out.place c out.out.there in
+settled_asked : FitLaws → (book : Book) (k : Core) (qs : List Queue) (now : ℕ) (c : FileChange) (cs : List FileChange) (a : Asked) → IsKept book k qs → IsNoted book k (Settles now) → SettlesOut k now c cs → c.what ≡ wanted.Asked a → (home : (x : Session) × (numbered k.sessions c.session ≡ Some x) × (x.hung ≡ false)) → is_raw home.0 ≡ false → Leads book qs (happens k (Settles now))
+settled_asked laws book k qs now c cs a kept noted out what home owned =
     let q = also_numbered k.sessions qs c.session home.0 kept.made.1 home.1 in
-    let h = kept.sessions c.session home.0 q.0 home.1 q.1 in
+    let h = kept.sessions c.session home.0 q.0 home.1 q.1 owned in
     let pending = subst (λ (w : Wanted). WaitsFor book c.session home.0.closing home.0.cut (job h.seat) c.xid c.file w) what (h.pending 0 c (ap (λ (l : List FileChange). slice_get l 0) out.out.mine)) in
     let wants = subst (IsWanted c.file) what (kept.server.wants out.out.place c out.out.there) in
-    ends_so laws book k qs now c cs a kept noted out what home.0 q.0 home.1 home.2 q.1 pending
+    ends_so laws book k qs now c cs a kept noted out what home.0 q.0 home.1 home.2 q.1 owned pending
     (settles_so k.server.tree (server.held cs) (walk_for a) a kept.server.bounded wants.2 (asks_itself a) wants.1 (λ n d. no_directory book k.server (file_of a) n kept.server (subst (λ (f : ℕ). WasThere book f) wants.0 (kept.server.targets out.out.place c out.out.there)) d))
 
 pub kept_settles : FitLaws → KeptSettles
@@ -348,8 +343,11 @@ kept_settles laws = λ book k qs now kept noted. by book k qs now kept noted (wh
   where
     by : (book : Book) (k : Core) (qs : List Queue) (now : ℕ) → IsKept book k qs → IsNoted book k (Settles now) → WhatSettles k now → Leads book qs (happens k (Settles now))
     by book k qs now kept noted (settles_none none is) = subst (Leads book qs) (sym is) (leads_idle book k qs kept)
-    by book k qs now kept noted (settles_one c cs out) = is_wanted c.what refl
+    by book k qs now kept noted (settles_one c cs out) = elim (raw_or_owned home.0) [ inl raw ↦ raw_settles book k qs now c cs kept out home.0 home.1 home.2 raw | inr owned ↦ is_wanted owned c.what refl ]
       where
-        is_wanted : (w : Wanted) → c.what ≡ w → Leads book qs (happens k (Settles now))
-        is_wanted (wanted.Content content) what = settled_commit laws book k qs now c cs content kept out what (the_files.file_at k.server.tree c.file) refl
-        is_wanted (wanted.Asked a) what = settled_asked laws book k qs now c cs a kept noted out what
+        home : (x : Session) × (numbered k.sessions c.session ≡ Some x) × (x.hung ≡ false)
+        home = kept.home out.out.place c out.out.there
+
+        is_wanted : is_raw home.0 ≡ false → (w : Wanted) → c.what ≡ w → Leads book qs (happens k (Settles now))
+        is_wanted owned (wanted.Content content) what = leads_noted book k qs (happens k (Settles now)) (out.raws ∙ owned_raws k (at (record k.server { waiting = cs }) now) c c.what home.0 home.1 owned) (came_same k.came (k.steps + 1)) (settled_commit laws book k qs now c cs content kept out what home owned (the_files.file_at k.server.tree c.file) refl)
+        is_wanted owned (wanted.Asked a) what = settled_asked laws book k qs now c cs a kept noted out what home owned

@@ -19,14 +19,14 @@ use Rattle.server_core.specs.declared.change.Wanted.TheVariants as wanted
 use Rattle.trace_replay.specs.Faithful.{change_refusal}
 use Rattle.trace_ends.specs.Core.{changed_file, is_of_file}
 use Rattle.trace_ends.specs.Ops.{pointed, pointed_at}
-use Rattle.kept_promise.proofs.Common.{slice_get, slice_set, cond, option_map, find, Contains, Contains-push, Message, name_answer, told_message, FileChange, Wanted, File, Entry, Op, Core, Session, CoreStep, numbered, settles, settled_ops, Book, Queue}
+use Rattle.kept_promise.proofs.Common.{slice_get, slice_set, cond, option_map, find, Contains, Contains-push, Message, name_answer, told_message, FileChange, Wanted, File, Entry, Op, Core, Session, CoreStep, numbered, settles, settled_ops, Book, Queue, is_raw}
 use Rattle.kept_promise.proofs.Lists.{some_is, nothing_there}
 use Rattle.kept_promise.proofs.Rights.{WasThere, IsUnmade, gets_file}
-use Rattle.kept_promise.proofs.Turns.{also_numbered}
+use Rattle.kept_promise.proofs.Turns.{also_numbered, unnoted, raw_or_owned}
 use Rattle.kept_promise.proofs.Messages.{job, WaitsFor, IsGoing, asked_word, walk_for, AsksFor, content_wanted}
 use Rattle.kept_promise.proofs.Facts.{IsSession, IsKept, IsWanted}
 use Rattle.kept_promise.proofs.GoingCalls.{IsName}
-use Rattle.kept_promise.proofs.Departures.{SettlesSo, refused_late, goes, settles_so}
+use Rattle.kept_promise.proofs.Departures.{SettlesSo, refused_late, goes, settles_so, asks_itself}
 use Rattle.kept_promise.proofs.TakenOut.{SettlesOut, WhatSettles, settles_one, settles_none, what_settles}
 use Rattle.kept_promise.proofs.GoingEnds.{asked_step, asked_settles}
 use Rattle.kept_promise.proofs.Gone.{no_directory}
@@ -118,36 +118,25 @@ gets_asked : (a : Asked) → gets_file (asked_word a) ≡ true
 gets_asked (asked.Remove r) = refl
 gets_asked (asked.Rename r) = refl
 
-asks_itself : (a : Asked) → AsksFor (walk_for a) a
-asks_itself (asked.Remove r) = (refl, refl, refl)
-asks_itself (asked.Rename r) = (refl, refl, refl)
-
 -- ---- the step
+
+-- what is noted of changes by others is nothing of it
+settling_noted : (k : Core) (now : ℕ) (t : CoreStep) → Settling k now (unnoted k t) → Settling k now t
+settling_noted k now t (makes_commit c cs f out what there) = makes_commit c cs f out what there
+settling_noted k now t (makes_else ops q tells removes) = makes_else ops (record { es = q.es; entries = q.entries; journal = q.journal; plain = q.plain }) tells removes
 
 pub settling : (book : Book) (k : Core) (qs : List Queue) (now : ℕ) → IsKept book k qs → Settling k now (settles k now)
 settling book k qs now kept = by (what_settles book k qs now kept)
   where
-    asked_so : (c : FileChange) (cs : List FileChange) (a : Asked) (x : Session) → SettlesOut k now c cs → c.what ≡ wanted.Asked a → c.file ≡ file_of a → numbered k.sessions c.session ≡ Some x → (p : (place : ℕ) × (op : Op) × (x.closing ≡ Some place) × (slice_get k.ops place ≡ Some op) × IsUnmade op × (op.word ≡ asked_word a) × (op.file ≡ 0)) → SettlesSo k.server.tree (server.held cs) (walk_for a) a
+    asked_so : (c : FileChange) (cs : List FileChange) (a : Asked) (x : Session) → SettlesOut k now c cs → c.what ≡ wanted.Asked a → c.file ≡ file_of a → numbered k.sessions c.session ≡ Some x → ((f : Option ℕ) → f ≡ Some (file_of a) → (let o = settled_ops k.ops (k.steps + 1) f (numbered k.sessions c.session) in (o ≡ k.ops) ⊎ GoesHere k o)) → SettlesSo k.server.tree (server.held cs) (walk_for a) a
         → Settling k now (asked_step k now c cs (tree_settles k.server.tree (server.held cs) a))
-    asked_so c cs a x out what file here p (refused_late s r is why refuses leads procs) = subst (λ (z : Tree × Finished). Settling k now (asked_step k now c cs z)) (sym is) (makes_else
+    asked_so c cs a x out what file here points (refused_late s r is why refuses leads procs) = subst (λ (z : Tree × Finished). Settling k now (asked_step k now c cs z)) (sym is) (makes_else
         (inl (ap (settled_ops k.ops (k.steps + 1) None) here ∙ pointed_none k.ops x.closing (k.steps + 1)))
         (record { es = []; entries = refl; journal = refl; plain = λ i e at. nothing_there e at })
         (tells_ready k now c (asked_step k now c cs (k.server.tree, said (name_answer r))) [] out.ready (inr (message.Answer c.xid (body.Nfs (name_answer r)), s, Contains-push [] (record { session = c.session; message = message.Answer c.xid (body.Nfs (name_answer r)) }), refuses)))
         (λ i e at. nothing_there e at))
-    asked_so c cs a x out what file here (place, op, known, there, unmade, word, file_is) (goes done r after is step gone names leads procs files none off root next) = subst (λ (z : Tree × Finished). Settling k now (asked_step k now c cs z)) (sym is) (makes_else
-        (inr (record {
-          place = place;
-          op = op;
-          there = there;
-          unmade = unmade;
-          gets = ap gets_file word ∙ gets_asked a;
-          file_is = file_is;
-          new = file_of a;
-          after_is = ap (λ (o : Option ℕ). settled_ops k.ops (k.steps + 1) o (numbered k.sessions c.session)) (changed_is c.session done.first done.second gone.entry (file_of a) gone.is gone.kind_is gone.file_is)
-              ∙ ap (settled_ops k.ops (k.steps + 1) (Some (file_of a))) here
-              ∙ ap (λ (l : Option ℕ). pointed_at k.ops l (k.steps + 1) (Some (file_of a))) known
-              ∙ ap (pointed k.ops place (file_of a) (k.steps + 1)) there;
-        }))
+    asked_so c cs a x out what file here points (goes done r after is step gone names leads procs files none off root next) = subst (λ (z : Tree × Finished). Settling k now (asked_step k now c cs z)) (sym is) (makes_else
+        (points (changed_file (entries_by c.session done.first done.second)) (changed_is c.session done.first done.second gone.entry (file_of a) gone.is gone.kind_is gone.file_is))
         (record {
           es = entries_by c.session done.first done.second;
           entries = ap (λ (m : ℕ). k.entries ++ replicate m (k.steps + 1)) (count_is c.session done.first done.second);
@@ -170,23 +159,47 @@ settling book k qs now kept = by (what_settles book k qs now kept)
         q : (q : Queue) × (numbered qs c.session ≡ Some q)
         q = also_numbered k.sessions qs c.session home.0 kept.made.1 home.1
 
-        h : IsSession book k.seats k.server c.session home.0 q.0
-        h = kept.sessions c.session home.0 q.0 home.1 q.1
+        h : is_raw home.0 ≡ false → IsSession book k.seats k.server c.session home.0 q.0
+        h owned = kept.sessions c.session home.0 q.0 home.1 q.1 owned
 
-        pending : WaitsFor book c.session home.0.closing home.0.cut (job h.seat) c.xid c.file c.what
-        pending = h.pending 0 c (ap (λ (l : List FileChange). slice_get l 0) out.out.mine)
+        pending : (owned : is_raw home.0 ≡ false) → WaitsFor book c.session home.0.closing home.0.cut (job (h owned).seat) c.xid c.file c.what
+        pending owned = (h owned).pending 0 c (ap (λ (l : List FileChange). slice_get l 0) out.out.mine)
 
         commit : (content : List ℕ) → c.what ≡ wanted.Content content → (o : Option File) → the_files.file_at k.server.tree c.file ≡ o → Settling k now (settles k now)
         commit content what (Some f) there = makes_commit c cs f out (what ∙ ap (λ (x : List ℕ). wanted.Content x) (sym (ap content_wanted what))) there
         commit content what None none =
             let is = unmade_settles k now c cs content out what (node_gone book k.server c.file kept.server (kept.server.targets out.out.place c at_place) none) in
-            subst (Settling k now) (sym is) (makes_else (inl refl) (record { es = []; entries = sym (append-nil k.entries); journal = sym (append-nil k.server.journal); plain = λ i d at. nothing_there d at }) (tells_ready k now c (unmade_step k now c cs) [] out.ready (inr (told_message (unmade_told c), status.Stale, Contains-push [] (record { session = c.session; message = told_message (unmade_told c) }), refl))) (λ i e at. nothing_there e at))
+            settling_noted k now (settles k now) (subst (Settling k now) (sym is) (makes_else (inl refl) (record { es = []; entries = sym (append-nil k.entries); journal = sym (append-nil k.server.journal); plain = λ i d at. nothing_there d at }) (tells_ready k now c (unmade_step k now c cs) [] out.ready (inr (told_message (unmade_told c), status.Stale, Contains-push [] (record { session = c.session; message = told_message (unmade_told c) }), refl))) (λ i e at. nothing_there e at)))
+
+        -- the operation of a client's session gets the file, and none of another session's does
+        points : (a : Asked) → c.what ≡ wanted.Asked a → (f : Option ℕ) → f ≡ Some (file_of a) → (is_raw home.0 ≡ true) ⊎ (is_raw home.0 ≡ false) → (let o = settled_ops k.ops (k.steps + 1) f (numbered k.sessions c.session) in (o ≡ k.ops) ⊎ GoesHere k o)
+        points a what f is (inl raw) =
+            inl (ap (settled_ops k.ops (k.steps + 1) f) home.1 ∙ ap (λ (l : Option ℕ). pointed_at k.ops l (k.steps + 1) f) (kept.strangers c.session home.0 q.0 home.1 q.1 raw).closing ∙ none_pointed f)
+          where
+            none_pointed : (f : Option ℕ) → pointed_at k.ops None (k.steps + 1) f ≡ k.ops
+            none_pointed None = refl
+            none_pointed (Some g) = refl
+        points a what f is (inr owned) =
+            let p : IsGoing book c.session home.0.closing home.0.cut (job (h owned).seat) c.xid a = subst (λ (w : Wanted). WaitsFor book c.session home.0.closing home.0.cut (job (h owned).seat) c.xid c.file w) what (pending owned) in
+            let there : slice_get k.ops p.place ≡ Some p.op = ap (λ (l : List Op). slice_get l p.place) (sym kept.ops) ∙ p.there in
+            inr (record {
+              place = p.place;
+              op = p.op;
+              there = there;
+              unmade = p.unmade;
+              gets = ap gets_file p.word_is ∙ gets_asked a;
+              file_is = p.file_is;
+              new = file_of a;
+              after_is = ap (λ (o : Option ℕ). settled_ops k.ops (k.steps + 1) o (numbered k.sessions c.session)) is
+                  ∙ ap (settled_ops k.ops (k.steps + 1) (Some (file_of a))) home.1
+                  ∙ ap (λ (l : Option ℕ). pointed_at k.ops l (k.steps + 1) (Some (file_of a))) p.known
+                  ∙ ap (pointed k.ops p.place (file_of a) (k.steps + 1)) there;
+            })
 
         is_wanted : (w : Wanted) → c.what ≡ w → Settling k now (settles k now)
         is_wanted (wanted.Content content) what = commit content what (the_files.file_at k.server.tree c.file) refl
         is_wanted (wanted.Asked a) what =
-            let p : IsGoing book c.session home.0.closing home.0.cut (job h.seat) c.xid a = subst (λ (w : Wanted). WaitsFor book c.session home.0.closing home.0.cut (job h.seat) c.xid c.file w) what pending in
             let wants = subst (IsWanted c.file) what (kept.server.wants out.out.place c at_place) in
-            subst (Settling k now) (sym (asked_settles k now c cs a out what)) (asked_so c cs a home.0 out what wants.0 home.1
-            (p.place, p.op, p.known, ap (λ (l : List Op). slice_get l p.place) (sym kept.ops) ∙ p.there, p.unmade, p.word_is, p.file_is)
-            (settles_so k.server.tree (server.held cs) (walk_for a) a kept.server.bounded wants.2 (asks_itself a) wants.1 (λ n d. no_directory book k.server (file_of a) n kept.server (subst (λ (f : ℕ). WasThere book f) wants.0 (kept.server.targets out.out.place c at_place)) d)))
+            settling_noted k now (settles k now) (subst (Settling k now) (sym (asked_settles k now c cs a out what)) (asked_so c cs a home.0 out what wants.0 home.1
+            (λ f is. points a what f is (raw_or_owned home.0))
+            (settles_so k.server.tree (server.held cs) (walk_for a) a kept.server.bounded wants.2 (asks_itself a) wants.1 (λ n d. no_directory book k.server (file_of a) n kept.server (subst (λ (f : ℕ). WasThere book f) wants.0 (kept.server.targets out.out.place c at_place)) d))))

@@ -1,5 +1,5 @@
 -- A run carries that what a success rests on was hashed by its operation's end: no list that is hashed later has a part in it.
-use Rattle.std.proofs.Common.{◌⊎◌, inl, inr, ◌≡◌, ℕ, zero, suc, ◌+◌, ◌≤◌, ◌<◌, List, [], ◌∷◌, ◌++◌, Option, Some, None, Bool, true, false, append_assoc, refl, sym, ap, ◌∙◌, subst, arith}
+use Rattle.std.proofs.Common.{◌⊎◌, inl, inr, ◌≡◌, ℕ, zero, suc, ◌+◌, ◌≤◌, ◌<◌, List, [], ◌∷◌, ◌++◌, Option, Some, None, Bool, true, false, append_assoc, refl, sym, ap, ◌∙◌, subst, arith, map}
 use Rattle.client_state.specs.State as client
 use Rattle.client_state.specs.declared.step.Ended.{Ended}
 use Rattle.client_state.specs.declared.step.Outcome.{Outcome as ClientOutcome}
@@ -10,9 +10,9 @@ use Rattle.register_model.specs.declared.op.Word.TheVariants as words
 use Rattle.trace_ends.specs.Ops.{op_ended, file_with}
 use Rattle.trace_ends.specs.Session.{taken_of as session_taken}
 use Rattle.trace_replay.specs.Causes.{OrBy}
-use Rattle.kept_promise.proofs.Common.{nat_tests, nat_le, cond, filter, Contains, Contains-push_cases, slice_get, slice_set, changes, is_untold, ClientStep, Entry, TakenCall, Op, Word, Opening, Core, Event, session_of, ops_after, ops_with, op_after, counted, has_point, point_if, value_of, told_of, happens, Moment, step_of, hashed_of, until, Book, Or, Collides, value_at, Queue}
-use Rattle.kept_promise.proofs.Lists.{some_is, nothing_there, same_or_not, of_appended, set_else, at_replaced, in_front, true_and_false}
-use Rattle.kept_promise.proofs.Marks.{marks, unpointed, unchanging, marks_appended, marks_neither, marks_same, marks_before}
+use Rattle.kept_promise.proofs.Common.{nat_tests, nat_le, cond, filter, Contains, Contains-push_cases, slice_get, slice_set, changes, is_untold, ClientStep, Entry, TakenCall, Op, Word, Opening, Core, Event, session_of, ops_after, ops_with, op_after, counted, has_point, point_if, value_of, told_of, happens, Moment, step_of, hashed_of, until, Book, Or, Collides, value_at, Queue, history}
+use Rattle.kept_promise.proofs.Lists.{some_is, nothing_there, same_or_not, of_appended, set_else, at_replaced, in_front, true_and_false, map_end}
+use Rattle.kept_promise.proofs.Marks.{marks, unpointed, unchanging, marks_appended, marks_neither, marks_same, marks_before, marks_append, too_late}
 use Rattle.kept_promise.proofs.Rights.{AreLeased, Caused, Soon, IsRight}
 use Rattle.kept_promise.proofs.Facts.{IsKept}
 use Rattle.kept_promise.proofs.Growth.{value_alike}
@@ -24,6 +24,9 @@ use Rattle.kept_promise.proofs.EntriesGrow.{event_grows}
 use Rattle.kept_promise.proofs.OpsAfter.{begun_unchanging, IsActed, OpsAfter, ops_after_event}
 use Rattle.kept_promise.proofs.Found.{Quietly}
 use Rattle.kept_promise.proofs.Fits.{FitLaws}
+use Rattle.kept_promise.proofs.Versions.{raws_more}
+use Rattle.register_model.specs.Raw.{op_of}
+use Rattle.register_model.specs.declared.raw.Raw.{Raw}
 
 -- ---- those of a list that pass a test
 
@@ -211,8 +214,25 @@ now_soon book more k qs e after kept rights leased steps (inr (inr (inl a))) p o
                   inr (soon_now more o o.outcome (λ m there. ap (λ (z : Op). until z.end (step_of m)) (sym its) ∙ ends_now q a.after taken (k.steps + 1) a.acts (step_of m) own.1 (steps m there)) leased (rights p o at).cause)
             ]
 
+-- so do those that others made
+others_stay : (k : Core) (e : Event) (f p : ℕ) → p ≤ k.steps + 1 → marks f p (map op_of (happens k e).core.raws) ≡ marks f p (map op_of k.raws)
+others_stay k e f p le = elim (raws_more k e) [
+  | inl same ↦ ap (λ (l : List Raw). marks f p (map op_of l)) same
+  | inr new ↦
+      ap (λ (l : List Raw). marks f p (map op_of l)) new.1
+      ∙ ap (marks f p) (map_end op_of k.raws new.0)
+      ∙ marks_appended f p (map op_of k.raws) (op_of new.0) (too_late f p (k.steps + 1) (op_of new.0) (ap (λ (n : ℕ). Some n) new.2) le)
+]
+
+marks_all : (k : Core) (e : Event) (ops : List Op) (f p : ℕ) → p ≤ k.steps + 1 → marks f p ops ≡ marks f p k.ops → marks f p (ops ++ map op_of (happens k e).core.raws) ≡ marks f p (k.ops ++ map op_of k.raws)
+marks_all k e ops f p le own =
+    marks_append f p ops (map op_of (happens k e).core.raws)
+    ∙ ap (λ l. l ++ marks f p (map op_of (happens k e).core.raws)) own
+    ∙ ap (λ l. marks f p k.ops ++ l) (others_stay k e f p le)
+    ∙ sym (marks_append f p k.ops (map op_of k.raws))
+
 -- what was told so stays so
-soon_later : (book more : Book) (o : Op) (u : Outcome) → more.opening ≡ book.opening → ((f p : ℕ) → p ≤ book.steps + 1 → marks f p more.ops ≡ marks f p book.ops) → ((p : ℕ) → o.point ≡ Some p → p ≤ book.steps)
+soon_later : (book more : Book) (o : Op) (u : Outcome) → more.opening ≡ book.opening → ((f p : ℕ) → p ≤ book.steps + 1 → marks f p (history more).ops ≡ marks f p (history book).ops) → ((p : ℕ) → o.point ≡ Some p → p ≤ book.steps)
     → ((j p : ℕ) → slice_get book.entries j ≡ Some p → slice_get more.entries j ≡ Some p) → ((j : ℕ) (e : Entry) → slice_get book.journal j ≡ Some e → slice_get more.journal j ≡ Some e) → Wider book.moments more.moments → Soon book o u → Soon more o u
 soon_later book more o (told.Opened len digest) opening stay past entries journal wider h =
     let le = past h.0 h.1 in
@@ -243,7 +263,7 @@ carried_soon fits = record {
       steps = λ m there. (let le = bound m there in omega (arith, le, passes));
       each = λ leased p o at. elim (now_soon before later k qs e (happens k e).core.ops s.early rights (leased_in now all within leased) bound becomes p o at) [
         | inr new ↦ new
-        | inl old ↦ soon_later before later o o.outcome refl (marks_event before later k qs e (happens k e).core.ops s.early refl rights becomes) (λ q is. ((s.early.sound.rights p o old).pointed q is).1) grown.0 grown.1 (wider_more past (moment k e ∷ [])) (h.each leased p o old)
+        | inl old ↦ soon_later before later o o.outcome refl (λ f q le. marks_all k e (happens k e).core.ops f q le (marks_event before later k qs e (happens k e).core.ops s.early refl rights becomes f q le)) (λ q is. ((s.early.sound.rights p o old).pointed q is).1) grown.0 grown.1 (wider_more past (moment k e ∷ [])) (h.each leased p o old)
       ];
     }
       where

@@ -9,7 +9,7 @@ use Rattle.client_state.specs.declared.task.Stage.TheVariants as stage
 use Rattle.register_model.specs.declared.op.Outcome.{Outcome}
 use Rattle.register_model.specs.declared.op.Outcome.TheVariants as told
 use Rattle.register_model.specs.declared.op.Word.TheVariants as words
-use Rattle.kept_promise.proofs.Common.{changes, cond, nat_tests, slice_get, slice_set, nat_le, Chunk, Answer, Done, Failed, Attr, Piece, Pending, FileChange, Fetch, Local, Stage, Op, Traffic, TakenCall, Core, Seat, Session, numbered, unless, hashed_of, Book, Entries, Indexed, Call, Call.Lease, Call.Hash, Call.Read, Call.Commit, Reply, Reply.Versioned, Reply.Hashed, Reply.Bytes, Reply.Changed, Ask, Told, Queue, reply_program, Call.Walks, Reply.Walked, Status}
+use Rattle.kept_promise.proofs.Common.{changes, cond, nat_tests, slice_get, slice_set, nat_le, Chunk, Answer, Done, Failed, Attr, Piece, Pending, FileChange, Fetch, Local, Stage, Op, Traffic, TakenCall, Core, Seat, Session, numbered, unless, hashed_of, Book, Entries, Indexed, Call, Call.Lease, Call.Hash, Call.Read, Call.Commit, Reply, Reply.Versioned, Reply.Hashed, Reply.Bytes, Reply.Changed, Ask, Told, Queue, reply_program, Call.Walks, Reply.Walked, Status, is_raw}
 use Rattle.kept_promise.proofs.Statements.{IsSpoken, CallFits}
 use Rattle.kept_promise.proofs.Lists.{some_is, nothing_there, same_or_not, of_replaced, at_replaced, false_and_true, all_both, all_map}
 use Rattle.kept_promise.proofs.Keys.{times, times_append, own, on_way, ask_key, change_key, told_key, pending_key, found_by, there_by, key_xid}
@@ -159,12 +159,13 @@ pub record Here (book : Book) (k : Core) (qs : List Queue) (n : ℕ) (x : Sessio
   pub kept : IsKept book k qs
   pub at : numbered k.sessions n ≡ Some x
   pub is : numbered qs n ≡ Some q
+  pub owned : is_raw x ≡ false
   pub first : q.downs ≡ t ∷ ts
   pub uncut : x.cut ≡ false
-  pub job_is : job (kept.sessions n x q at is).seat ≡ Some j
+  pub job_is : job (kept.sessions n x q at is owned).seat ≡ Some j
 
 abbrev pub session_at : (book : Book) (k : Core) (qs : List Queue) (n : ℕ) (x : Session) (q : Queue) (t : Told) (ts : List Told) (j : Job) → Here book k qs n x q t ts j → IsSession book k.seats k.server n x q
-session_at book k qs n x q t ts j g = g.kept.sessions n x q g.at g.is
+session_at book k qs n x q t ts j g = g.kept.sessions n x q g.at g.is g.owned
 
 -- its owner speaks the version that all clients do, which is one that is served
 pub speaks_at : (book : Book) (k : Core) (qs : List Queue) (n : ℕ) (x : Session) (q : Queue) (t : Told) (ts : List Told) (j : Job) (g : Here book k qs n x q t ts j) → (session_at book k qs n x q t ts j g).seat.client.lbfs ≡ book.lbfs
@@ -267,7 +268,7 @@ kept_goes book k qs n x q t ts j g s next forgotten asks cache index sent tr sea
     let old_tolds = subst (λ (o : Option Job). AllTolds (IsAnswer book x.taken x.closing o) q.downs) g.job_is talk.answers in
     let bound = tolds_below n k.server.waiting q x.hung h.seat.client.next_xid (client.calls_of h.seat.client) talk.balanced in
     let moved : IsOf more x.owner (on j s) = record { op = counting of.op tr; there = at_replaced book.ops j.place (counting of.op tr) of.op of.there; client = of.client; word = of.word ∙ sym w.word; file = λ n. of.file (naming_same s j.stage w.word n); running = of.running } in
-    kept_heard book ops k qs n x q t ts c (Some j.place) asks None None seats after g.kept g.at g.is g.first g.uncut around queues (record {
+    kept_heard book ops k qs n x q t ts c (Some j.place) asks None None seats after g.kept g.at g.is g.owned g.first g.uncut around queues (record {
       goes = goes;
       still = still_becomes book 1 None None j.place of.op (counting of.op tr) of.there (becomes_counting book x.owner j tr of g.kept.sound) g.kept.sound;
       made_here = λ p f. nothing_there p f;
@@ -369,7 +370,7 @@ kept_stops book k qs n x q t ts j g r made opened forgotten cache index seats af
     let more = onward book 1 ops in
     let goes = goes_becomes book 1 made (Some j.place) j.place of.op r of.there w.becomes w.right g.kept.sound in
     let seat_was = g.kept.seats x.owner h.seat h.owner in
-    kept_heard book ops k qs n x q t ts c None [] made (Some j.place) seats after g.kept g.at g.is g.first g.uncut around queues (record {
+    kept_heard book ops k qs n x q t ts c None [] made (Some j.place) seats after g.kept g.at g.is g.owned g.first g.uncut around queues (record {
       goes = goes;
       still = still_becomes book 1 made (Some j.place) j.place of.op r of.there w.becomes g.kept.sound;
       made_here = w.made_here;

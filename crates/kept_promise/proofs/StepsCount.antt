@@ -5,8 +5,9 @@ use Rattle.server_core.specs.State as server
 use Rattle.server_core.specs.declared.event.Event.TheVariants as event
 use Rattle.server_rules.specs.declared.told.Told.{Told}
 use Rattle.server_rules.specs.declared.told.Told.TheVariants as told
-use Rattle.kept_promise.proofs.Common.{Opening, Core, Seat, Session, Event, Event.Joins, Event.Does, Event.Serves, Event.Hears, Event.Settles, Event.Cuts, Event.Hangs, numbered, joins, joins_as, does, serves, serves_if, hears, hears_at, hears_if, is_newest, cuts, cuts_if, hangs, hangs_if, server_waits, happens, Moment, moments, owner_in, Queue, World, run, parse_of, WireFault, Message, not, server_step}
-use Rattle.kept_promise.proofs.Actors.{session_served}
+use Rattle.kept_promise.proofs.Common.{Opening, Core, Seat, Session, Event, Event.Joins, Event.Does, Event.Serves, Event.Hears, Event.Settles, Event.Cuts, Event.Hangs, Event.RawJoins, numbered, joins, joins_as, does, serves, serves_if, hears, hears_at, hears_if, is_newest, cuts, cuts_if, hangs, hangs_if, server_waits, happens, Moment, moments, owner_in, Queue, World, run, parse_of, WireFault, Message, not, server_step}
+use Rattle.wire.specs.declared.fault.WireFault.TheVariants as fault
+use Rattle.trace_ends.specs.Core.{serves_none, serves_unless, raw_joins_as}
 use Rattle.kept_promise.proofs.Fits.{FitLaws}
 use Rattle.kept_promise.proofs.RunsCarried.{KeptLaws, moment, Step, Carried}
 use Rattle.kept_promise.proofs.Runs.{carried_plain}
@@ -17,12 +18,29 @@ joins_count : (k : Core) (n : ℕ) (seat : Seat) (s : server.State) (t : Told) �
 joins_count k n seat s (told.Session made) = refl
 joins_count k n seat s _ = refl
 
-serves_count : (k : Core) (n now : ℕ) (x : Session) (r : Result Message WireFault) → (serves_if k n now x r).core.steps ≡ k.steps + 1
-serves_count k n now x (Ok m) = refl
-serves_count k n now x (Err e) = refl
-
 no_more : (k : Core) → k.steps ≡ k.steps + 0
 no_more k = omega arith
+
+raw_joins_count : (k : Core) (s : server.State) (t : Told) → (raw_joins_as k s t).core.steps ≡ k.steps + 1
+raw_joins_count k s (told.Session made) = refl
+raw_joins_count k s _ = refl
+
+serves_count : (k : Core) (n now : ℕ) (bytes : List ℕ) (o : Option Session) → (serves k n now bytes o).core.steps ≡ k.steps + step_if (can_hang o)
+serves_count k n now bytes None = no_more k
+serves_count k n now bytes (Some x) = by x.hung
+  where
+    none : (e : WireFault) → (serves_none k n x e).core.steps ≡ k.steps + 1
+    none (fault.UnknownXid xid) = refl
+    none (fault.NotRpc place) = refl
+    none (fault.Garbage place) = refl
+
+    read : (r : Result Message WireFault) → (serves_if k n now x r).core.steps ≡ k.steps + 1
+    read (Ok m) = refl
+    read (Err e) = none e
+
+    by : (b : Bool) → (serves_unless k n now bytes x b).core.steps ≡ k.steps + step_if (not b)
+    by true = no_more k
+    by false = read (parse_of (server_waits k n) bytes)
 
 hears_count : (k : Core) (n now : ℕ) (bytes : List ℕ) (o : Option Session) → (hears k n now bytes o).core.steps ≡ k.steps + step_if (is_heard (numbered k.seats (owner_in o)) n)
 hears_count k n now bytes None = no_more k
@@ -55,13 +73,12 @@ happens_count all past rest opening k qs (Joins c) mid after s =
     let r = server_step k.server event.Connect in
     ap (λ (o : Option Seat). (joins k c o).core.steps) s.finds.1 ∙ joins_count k c s.finds.0 r.0 r.1.told
 happens_count all past rest opening k qs (Does c now d) mid after s = ap (λ (o : Option Seat). (does k c now d o).core.steps) s.finds.1
-happens_count all past rest opening k qs (Serves n now bytes) mid after s =
-    let x = session_served k qs n now bytes mid s.kept.made.1 s.finds in
-    ap (λ (o : Option Session). (serves k n now bytes o).core.steps) x.1 ∙ serves_count k n now x.0 (parse_of (server_waits k n) bytes)
+happens_count all past rest opening k qs (Serves n now bytes) mid after s = serves_count k n now bytes (numbered k.sessions n)
 happens_count all past rest opening k qs (Hears n now bytes) mid after s = hears_count k n now bytes (numbered k.sessions n)
 happens_count all past rest opening k qs (Settles now) mid after s = refl
 happens_count all past rest opening k qs (Cuts c) mid after s = ap (λ (o : Option Seat). (cuts k c o).core.steps) s.finds.1 ∙ cuts_count k c s.finds.0 s.finds.0.client.linked
 happens_count all past rest opening k qs (Hangs n) mid after s = hangs_count k n (numbered k.sessions n)
+happens_count all past rest opening k qs RawJoins mid after s = let r = server_step k.server event.Connect in raw_joins_count k r.0 r.1.told
 
 -- ---- all moments
 

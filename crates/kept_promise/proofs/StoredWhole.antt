@@ -22,7 +22,7 @@ use Rattle.kept_promise.proofs.Lists.{some_is, nothing_there, within, of_replace
 use Rattle.kept_promise.proofs.Keys.{own}
 use Rattle.kept_promise.proofs.Messages.{job, AllAsks, IsCommit, CommitOf, IsPending, Job, IsCreating, goal_word, IsGoing, WaitsFor, asked_word}
 use Rattle.kept_promise.proofs.Fits.{FitLaws}
-use Rattle.kept_promise.proofs.Turns.{also_numbered}
+use Rattle.kept_promise.proofs.Turns.{also_numbered, owned_closing}
 use Rattle.kept_promise.proofs.Facts.{IsKept, IsSession, commits_in}
 use Rattle.kept_promise.proofs.RunsCarried.{book_at, moment, Step, Carried}
 use Rattle.kept_promise.proofs.Counted.{AlikeUpTo, SaidBy, said_by, running_past}
@@ -94,7 +94,7 @@ on_its_way book seats k n x q h lt = by (own n k.server.waiting) refl
 -- as long as the owner is there, its job tells that it has sent its COMMITTMP
 waits_here : (book : Book) (past : List Moment) (k : Core) (qs : List Queue) → IsKept book k qs → LogsAt ClosesBy CloseNamed past k → Waits past k qs false
 waits_here book past k qs kept closes = λ n p x q o at is uncut known lt there close.
-    let h = kept.sessions n x q at is in
+    let h = kept.sessions n x q at is (owned_closing kept n x p at known) in
     elim (on_its_way book k.seats k n x q h lt) [
       | inl w ↦
           let pending = w.3 in
@@ -197,11 +197,11 @@ waits_before book past k qs kept closes waits false = waits_here book past k qs 
 
 waits_event : FitLaws → (all past rest : List Moment) (opening : List Opening) (k : Core) (qs : List Queue) (e : Event) (mid after : List Queue) → Step all past rest opening k qs e mid after → Stored all past opening k qs → Waits (past ++ moment k e ∷ []) (happens k e).core after true
 waits_event laws all past rest opening k qs e mid after s h = λ n p y r o at is is_cut known lt there close.
-    let w = commits_left laws all past rest opening k qs e mid after s n y r at is is_cut in
+    let w = commits_left laws all past rest opening k qs e mid after s n y r at is (owned_closing s.left n y p at known, is_cut) in
     let x : Session = w.0 in
     let q : Queue = w.1 in
     let le = w.5 in
-    let old = (s.kept.sessions n x q w.2 w.3).old p (sym w.4 ∙ known) in
+    let old = (s.kept.sessions n x q w.2 w.3 (owned_closing s.kept n x p w.2 (sym w.4 ∙ known))).old p (sym w.4 ∙ known) in
     let sent = waits_before (book_at opening k all) past k qs s.kept h.closes h.waits x.cut n p x q old.0 w.2 w.3 refl (sym w.4 ∙ known) (omega (arith, le, lt)) old.1 (word_before k p o (came_event laws all past rest opening k qs e mid after s p o there) old.0 old.1 close) in
     let follows = stays_in (book_at opening k all) k qs e (happens k e).core.ops s.kept (ops_after_event laws all past rest opening k qs e mid after s).0 p old.0 old.1 in
     let same : follows.0 ≡ o = some_is follows.0 o (sym follows.1 ∙ there) in

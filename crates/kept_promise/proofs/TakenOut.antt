@@ -1,22 +1,24 @@
 -- A pending change is taken out by a settling, wherever it stands: what is left of the others, and what the settling is.
-use Rattle.std.proofs.Common.{◌≡◌, ℕ, zero, suc, ◌+◌, ◌≤◌, List, [], ◌∷◌, ◌++◌, length, Option, Some, None, Bool, true, false, refl, sym, ap, ◌∙◌, subst, arith, append-nil, eq-eqb, eqb-true, ne_eqb, replicate}
+use Rattle.std.proofs.Common.{◌≡◌, ℕ, zero, suc, ◌+◌, ◌≤◌, List, [], ◌∷◌, ◌++◌, length, Option, Some, None, Bool, true, false, refl, sym, ap, ◌∙◌, subst, arith, append-nil, eq-eqb, eqb-true, ne_eqb, replicate, ◌⊎◌, inl, inr}
 use Rattle.std.specs.Prelude.{remove}
 use Rattle.server_core.specs.State as server
 use Rattle.server_core.specs.Closing as closing
 use Rattle.server_core.specs.declared.change.Wanted.{Wanted}
 use Rattle.server_core.specs.declared.change.Wanted.TheVariants as wanted
-use Rattle.trace_ends.specs.Core.{newest_entries, changed_file, idles}
+use Rattle.server_rules.specs.declared.told.Told.TheVariants as told
+use Rattle.trace_ends.specs.Core.{newest_entries, changed_file, idles, raws_by, changed_entry}
 use Rattle.callback_core.specs.Waits.{ready, without, without_made}
 use Rattle.server_core.specs.Closing.{ready_by}
 use Rattle.server_core.proofs.lemmas.Ready.{ready_there}
 use Rattle.server_core.specs.Closing.{makes_change}
 use Rattle.trace_replay.specs.OwnCalls.{others_waiting}
-use Rattle.kept_promise.proofs.Common.{slice_get, cond, not, ◌==◌, at, FileChange, ServerStep, Core, CoreStep, quiet, settles, settled_by, Book, Queue, later, nat_le, if◌then◌else◌, Event.Settles}
+use Rattle.kept_promise.proofs.Common.{slice_get, cond, not, ◌==◌, at, FileChange, ServerStep, Core, CoreStep, quiet, settles, settled_by, Book, Queue, later, nat_le, if◌then◌else◌, Event.Settles, is_raw, raws_with, raws_on, Session, numbered, Tree, Entry, settled_ops, pointed_at}
 use Rattle.kept_promise.proofs.Lists.{some_is, nothing_there}
 use Rattle.kept_promise.proofs.Keys.{own}
-use Rattle.kept_promise.proofs.Turns.{also_numbered}
+use Rattle.kept_promise.proofs.Turns.{also_numbered, unnoted, raw_or_owned}
 use Rattle.kept_promise.proofs.Promised.{own_there}
 use Rattle.kept_promise.proofs.Facts.{IsKept}
+use Rattle.register_model.specs.declared.raw.Raw.{Raw}
 
 -- ---- among those that wait
 
@@ -115,12 +117,60 @@ pub made_waiting : (s : server.State) (c : FileChange) (w : Wanted) → (makes_c
 made_waiting s c (wanted.Content content) = refl
 made_waiting s c (wanted.Asked a) = refl
 
+-- and what is noted of a change by a session that is no client's
+abbrev pub raws_to : Core → server.State × ServerStep → List Raw
+raws_to k r = raws_by k r.0.tree (changed_entry (newest_entries r.0.journal r.1.entries)) r.1.told
+
+-- with these
+abbrev settled_raws : Core → server.State × ServerStep → CoreStep
+settled_raws k r = record (settled_to k r) { core = record (settled_to k r).core { raws = raws_to k r } }
+
 pub record SettlesOut (k : Core) (now : ℕ) (c : FileChange) (rest : List FileChange) : Type 0 where
   pub out : IsOut k.server.waiting c rest
-  pub is : settles k now ≡ settled_to k (makes_change (at (record k.server { waiting = rest }) now) c c.what)
+  pub is : unnoted k (settles k now) ≡ settled_to k (makes_change (at (record k.server { waiting = rest }) now) c c.what)
+  -- what is noted of it, if its session is no client's
+  pub raws : (settles k now).core.raws ≡ raws_to k (makes_change (at (record k.server { waiting = rest }) now) c c.what)
   -- it's the one that the promise names, and so are the others
   pub ready : ready_by k.server now ≡ Some c
   pub others : others_waiting (Settles now) k.server ≡ rest
+
+-- whatever is made of it, its session is told
+pub told_is : (s : server.State) (c : FileChange) (w : Wanted) → (makes_change s c w).1.told ≡ told.Settled c.session c.xid
+told_is s c (wanted.Content content) = refl
+told_is s c (wanted.Asked a) = refl
+
+-- of a session that has an owner nothing is noted so
+pub owned_raws : (k : Core) (s : server.State) (c : FileChange) (w : Wanted) (x : Session) → numbered k.sessions c.session ≡ Some x → is_raw x ≡ false → raws_to k (makes_change s c w) ≡ k.raws
+owned_raws k s c w x at own = ap (raws_by k tree entry) (told_is s c w) ∙ ap (raws_on k.raws (numbered k.came c.session) (k.steps + 1) tree entry) at ∙ by (numbered k.came c.session)
+  where
+    tree : Tree
+    tree = (makes_change s c w).0.tree
+
+    entry : Option Entry
+    entry = changed_entry (newest_entries (makes_change s c w).0.journal (makes_change s c w).1.entries)
+
+    by : (came : Option ℕ) → raws_on k.raws came (k.steps + 1) tree entry (Some x) ≡ k.raws
+    by None = refl
+    by (Some came) = ap (λ (b : Bool). raws_with k.raws b came (k.steps + 1) tree entry) own
+
+-- and of one that has none no operation is pointed at
+pub raw_ops : (k : Core) (now : ℕ) (c : FileChange) (rest : List FileChange) (x : Session) → SettlesOut k now c rest → numbered k.sessions c.session ≡ Some x → x.closing ≡ None → (settles k now).core.ops ≡ k.ops
+raw_ops k now c rest x out at_ closing =
+    ap (λ (t : CoreStep). t.core.ops) out.is
+    ∙ ap (settled_by k changed) (told_is before c c.what)
+    ∙ ap (settled_ops k.ops (k.steps + 1) changed) at_
+    ∙ ap (λ (p : Option ℕ). pointed_at k.ops p (k.steps + 1) changed) closing
+    ∙ none changed
+  where
+    before : server.State
+    before = at (record k.server { waiting = rest }) now
+
+    changed : Option ℕ
+    changed = changed_file (newest_entries (makes_change before c c.what).0.journal (makes_change before c c.what).1.entries)
+
+    none : (o : Option ℕ) → pointed_at k.ops None (k.steps + 1) o ≡ k.ops
+    none None = refl
+    none (Some f) = refl
 
 -- a change is settled, or none is ready
 pub data WhatSettles (k : Core) (now : ℕ) : Type 0 where
@@ -169,20 +219,24 @@ what_settles book k qs now kept = by (ready_by k.server now) refl
     single i c at =
         let home = kept.home i c at in
         let q = also_numbered k.sessions qs c.session home.0 kept.made.1 home.1 in
-        let one = (kept.sessions c.session home.0 q.0 home.1 q.1).single in
-        omega (arith, one)
+        by home.0 q.0 home.1 q.1 (raw_or_owned home.0)
+      where
+        by : (x : Session) (q : Queue) → numbered k.sessions c.session ≡ Some x → numbered qs c.session ≡ Some q → (is_raw x ≡ true) ⊎ (is_raw x ≡ false) → length (own c.session k.server.waiting) ≤ 1
+        by x q here is (inl raw) = (kept.strangers c.session x q here is raw).single
+        by x q here is (inr owned) = let one = (kept.sessions c.session x q here is owned).single in omega (arith, one)
 
     settles_as : (o : Option FileChange) → ready_by k.server now ≡ o → closing.settles k.server now ≡ closing.settles_by k.server false now o
     settles_as o e = ap (closing.settles_by k.server false now) e
 
     by : (o : Option FileChange) → ready_by k.server now ≡ o → WhatSettles k now
-    by None e = settles_none e (ap (settled_to k) (settles_as None e) ∙ ap (λ (l : List ℕ). quiet (record k { steps = k.steps + 1; entries = l })) (append-nil k.entries))
+    by None e = settles_none e (ap (settled_raws k) (settles_as None e) ∙ ap (λ (l : List ℕ). quiet (record k { steps = k.steps + 1; entries = l })) (append-nil k.entries))
     by (Some c) e =
         let there = ready_waits k.server now c e in
         let one = single there.0 c there.1 in
         settles_one c (without k.server.waiting c.session) (record {
           out = subst (λ (l : List FileChange). IsOut k.server.waiting c l) (sym (without_removed k.server.waiting there.0 c there.1 one)) (out_at k.server.waiting there.0 c there.1 one);
           is = ap (settled_to k) (settles_as (Some c) e);
+          raws = ap (raws_to k) (settles_as (Some c) e);
           ready = e;
           others = ap (without_made k.server.waiting) e;
         })

@@ -5,7 +5,7 @@ use Rattle.server_core.specs.State as server
 use Rattle.chunk_calls.specs.Files as the_files
 use Rattle.client_state.specs.State as client
 use Rattle.register_model.specs.declared.op.Outcome.TheVariants as told
-use Rattle.kept_promise.proofs.Common.{slice_get, Indexed, MessageFits, Temp, key_of, FileChange, File, TakenCall, Core, Session, numbered, unless, hashed_of, Book, value_at, Reply, Ask, Told, Queue, told_message, call_program, reply_program, version_at, Entry, Op, Seat, Tree, Leasing}
+use Rattle.kept_promise.proofs.Common.{slice_get, Indexed, MessageFits, Temp, key_of, FileChange, File, TakenCall, Core, Session, numbered, unless, hashed_of, Book, value_at, Reply, Ask, Told, Queue, told_message, call_program, reply_program, version_at, Entry, Op, Seat, Tree, Leasing, is_raw}
 use Rattle.kept_promise.proofs.Statements.{ToldFits, CallFits}
 use Rattle.kept_promise.proofs.Lists.{some_is, nothing_there, same_or_not, false_and_true, all_append, all_map, all_unless}
 use Rattle.kept_promise.proofs.Keys.{times, times_append, own, on_way, key, change_key, ask_key, told_key}
@@ -18,7 +18,7 @@ use Rattle.kept_promise.proofs.Turns.{Around, around_same, turned_core, kept_tur
 use Rattle.kept_promise.proofs.Shelf.{IsShelf}
 use Rattle.kept_promise.proofs.Orderly.{locals_of, Wanted, Held, Orderly}
 use Rattle.kept_promise.proofs.Ordered.{SameFound, orderly_answered}
-use Rattle.kept_promise.proofs.Facts.{IsValue, FileIs, HasTerm, IsServer, IsTalk, IsSession, IsKept, commits_in}
+use Rattle.kept_promise.proofs.Facts.{IsValue, FileIs, IsLeasing, IsServer, IsTalk, IsSession, IsKept, commits_in}
 use Rattle.kept_promise.proofs.Unused.{IsUnused}
 
 -- ---- the tree, where no file changes
@@ -34,7 +34,7 @@ file_still book more made ended f (Some g) grows still h = (h.0, h.1, h.2, value
 pub fresh_still : (book more : Book) (made ended : Option ℕ) (t : Tree) → Grows book more made ended → Still book more → ((f : ℕ) → IsUnused t f → version_at book f (book.steps + 1) ≡ 0) → (f : ℕ) → IsUnused t f → version_at more f (more.steps + 1) ≡ 0
 fresh_still book more made ended t grows still h f le = version_alike book more f (more.steps + 1) (book.steps + 1) grows.opening (still f) ∙ h f le
 
-pub server_still : (book more : Book) (made ended : Option ℕ) (s : server.State) (leasing : Leasing) (temps : List (ℕ × Temp)) (index : Indexed) → HasTerm leasing → Grows book more made ended → Still book more → IsServer book s → IsServer more (record s { leasing = leasing; temps = temps; index = index })
+pub server_still : (book more : Book) (made ended : Option ℕ) (s : server.State) (leasing : Leasing) (temps : List (ℕ × Temp)) (index : Indexed) → IsLeasing leasing → Grows book more made ended → Still book more → IsServer book s → IsServer more (record s { leasing = leasing; temps = temps; index = index })
 server_still book more made ended s leasing temps index leases grows still h = record { held = λ f. file_still book more made ended f (the_files.file_at s.tree f) grows still (h.held f); fresh = fresh_still book more made ended s.tree grows still h.fresh; bounded = h.bounded; zero = h.zero; rooted = h.rooted; wants = h.wants; changes = h.changes; bytes = h.bytes; lengths = h.lengths; targets = λ i c e. there_later book more made ended c.file grows (h.targets i c e); xids = h.xids; leases = leases; serves = serves_later book more made ended grows h.serves }
 
 -- ---- a session that took a call
@@ -93,12 +93,12 @@ pub record Leaves (book : Book) (k : Core) (n : ℕ) (x : Session) (q : Queue) (
   pub others : (o i m : ℕ) (e : ℕ × Temp) → (o ≡ n → ⊥) → m < 4294967296 → slice_get temps i ≡ Some e → e.0 ≡ key_of o m → (j : ℕ) × (slice_get k.server.temps j ≡ Some e)
 
 pub kept_taken : (book more : Book) (k : Core) (qs : List Queue) (n : ℕ) (leasing : Leasing) (tree : Tree) (journal : List Entry) (temps : List (ℕ × Temp)) (index : Indexed) (x : Session) (q : Queue) (a : Ask) (us : List Ask) (r : Reply) (made : Option ℕ) (sessions : List Session) (after : List Queue)
-    → (kept : IsKept book k qs) → (at : numbered k.sessions n ≡ Some x) → (is : numbered qs n ≡ Some q) → q.ups ≡ a ∷ us → x.hung ≡ false
+    → (kept : IsKept book k qs) → (at : numbered k.sessions n ≡ Some x) → (is : numbered qs n ≡ Some q) → (owned : is_raw x ≡ false) → q.ups ≡ a ∷ us → x.hung ≡ false
     → Around k.sessions sessions n (took x a.xid (book.steps + 1)) → Around qs after n (put_down q us x.cut (record { xid = a.xid; reply = r }))
-    → Shows book more k n x q a us (left_server k.server leasing tree journal temps index) r made (kept.sessions n x q at is) → Leaves book k n x q temps (kept.sessions n x q at is)
+    → Shows book more k n x q a us (left_server k.server leasing tree journal temps index) r made (kept.sessions n x q at is owned) → Leaves book k n x q temps (kept.sessions n x q at is owned)
     → IsKept more (turned_core k more (left_server k.server leasing tree journal temps index) k.seats sessions) after
-kept_taken book more k qs n leasing tree journal temps index x q a us r made sessions after kept at is e unhung around queues shows leaves =
-    let h = kept.sessions n x q at is in
+kept_taken book more k qs n leasing tree journal temps index x q a us r made sessions after kept at is owned e unhung around queues shows leaves =
+    let h = kept.sessions n x q at is owned in
     let s = left_server k.server leasing tree journal temps index in
     let g = shows.goes.grows in
     let y = took x a.xid (book.steps + 1) in
@@ -209,17 +209,17 @@ pub record Answers (book : Book) (k : Core) (n : ℕ) (x : Session) (q : Queue) 
   pub others : (o i m : ℕ) (e : ℕ × Temp) → (o ≡ n → ⊥) → m < 4294967296 → slice_get temps i ≡ Some e → e.0 ≡ key_of o m → (j : ℕ) × (slice_get k.server.temps j ≡ Some e)
 
 pub kept_reply : (book : Book) (k : Core) (qs : List Queue) (n : ℕ) (leasing : Leasing) (x : Session) (q : Queue) (a : Ask) (us : List Ask) (temps : List (ℕ × Temp)) (index : Indexed) (r : Reply) (sessions : List Session) (after : List Queue)
-    → HasTerm leasing → (kept : IsKept book k qs) → (at : numbered k.sessions n ≡ Some x) → (is : numbered qs n ≡ Some q) → q.ups ≡ a ∷ us → x.hung ≡ false
+    → IsLeasing leasing → (kept : IsKept book k qs) → (at : numbered k.sessions n ≡ Some x) → (is : numbered qs n ≡ Some q) → (owned : is_raw x ≡ false) → q.ups ≡ a ∷ us → x.hung ≡ false
     → Around k.sessions sessions n (took x a.xid (book.steps + 1)) → Around qs after n (put_down q us x.cut (record { xid = a.xid; reply = r }))
-    → Answers book k n x q a temps r (kept.sessions n x q at is)
+    → Answers book k n x q a temps r (kept.sessions n x q at is owned)
     → IsKept (onward book 1 book.ops) (turned_core k (onward book 1 book.ops) (record k.server { leasing = leasing; temps = temps; index = index }) k.seats sessions) after
-kept_reply book k qs n leasing x q a us temps index r sessions after leases kept at is e unhung around queues shows =
-    let h = kept.sessions n x q at is in
+kept_reply book k qs n leasing x q a us temps index r sessions after leases kept at is owned e unhung around queues shows =
+    let h = kept.sessions n x q at is owned in
     let more = onward book 1 book.ops in
     let g = grows_same book 1 in
     let z : TakenCall = record { xid = a.xid; step = book.steps + 1 } in
     let spares : Spares x.closing None = λ p u v. nothing_there p v in
-    kept_taken book more k qs n leasing k.server.tree k.server.journal temps index x q a us r None sessions after kept at is e unhung around queues (record {
+    kept_taken book more k qs n leasing k.server.tree k.server.journal temps index x q a us r None sessions after kept at is owned e unhung around queues (record {
       goes = goes_same book 1 kept.sound;
       server = server_still book more None None k.server leasing temps index leases g (still_same book 1 kept.sound) kept.server;
       journal_is = kept.journal;

@@ -1,12 +1,12 @@
 -- What is known of an operation as its client takes an answer to one of its calls: its attempts before, and the content that is fetched.
-use Rattle.std.proofs.Common.{inl, inr, ◌≡◌, ℕ, zero, suc, ◌+◌, ◌<◌, ◌≤◌, List, [], ◌∷◌, length, Option, Some, None, Bool, true, false, refl, sym, ap, ◌∙◌, subst, arith, eqb-true, map, ◌⊎◌}
+use Rattle.std.proofs.Common.{inl, inr, ◌≡◌, ℕ, zero, suc, ◌+◌, ◌<◌, ◌≤◌, List, [], ◌∷◌, length, Option, Some, None, Bool, true, false, refl, sym, ap, ◌∙◌, subst, arith, eqb-true, map, ◌⊎◌, ◌++◌}
 use Rattle.hash_calls.specs.declared.message.Lb.TheVariants as lb
 use Rattle.wire.specs.declared.message.Body.TheVariants as body
 use Rattle.client_state.specs.State as client
 use Rattle.client_state.specs.declared.task.Stage.TheVariants as stage
 use Rattle.register_model.specs.declared.op.Outcome.TheVariants as told
 use Rattle.register_model.specs.declared.op.Word.TheVariants as words
-use Rattle.kept_promise.proofs.Common.{nat_tests, ◌==◌, ◌&&◌, ◌||◌, nat_lt, cond, not, slice_get, slice_set, filter, option_map_or, chunks_of, Done, Hashes, Body, Pending, ClientStep, Fetch, ReadCall, Stage, without_read, with_hashes, fetch_of, end_of, content_of, changes, changed_before, latest, value_after, Op, Opening, TakenCall, op_after, ops_after, ops_with, Book, value_at, Tried, Reply, Reply.Hashed, reply_body}
+use Rattle.kept_promise.proofs.Common.{nat_tests, ◌==◌, ◌&&◌, ◌||◌, nat_lt, cond, not, slice_get, slice_set, filter, option_map_or, chunks_of, Done, Hashes, Body, Pending, ClientStep, Fetch, ReadCall, Stage, without_read, with_hashes, fetch_of, end_of, content_of, changes, changed_before, latest, value_after, Op, Opening, TakenCall, op_after, ops_after, ops_with, Book, value_at, Tried, Reply, Reply.Hashed, reply_body, history}
 use Rattle.kept_promise.proofs.Lists.{some_is}
 use Rattle.kept_promise.proofs.Keys.{times}
 use Rattle.kept_promise.proofs.Messages.{Job, stage_word, hash_offset, IsTried, TriedBy, AnswerOf, IsHashed, IsFetch, FetchOf, Trying, IsTrying}
@@ -14,6 +14,8 @@ use Rattle.kept_promise.proofs.Rights.{IsSound, close_not_open}
 use Rattle.kept_promise.proofs.Attempts.{fetch_first, fetch_next}
 use Rattle.kept_promise.proofs.Versions.{version_in, cons_count, count_replaced, after_alike}
 use Rattle.kept_promise.proofs.StepCases.{FetchIn, FetchNow, FetchNow.all_told, FetchNow.one_came}
+use Rattle.register_model.specs.Raw.{op_of}
+use Rattle.register_model.specs.declared.raw.Raw.{Raw}
 
 -- ---- versions grow
 
@@ -52,12 +54,12 @@ tried_from book f b (suc n) p h = let le = tried_from book f b n h.0 h.2 in let 
 abbrev pub Moved : List Op → (file begin end : ℕ) → Type 0
 Moved ops f b e = (m : ℕ) × (b ≤ m) × (m ≤ e) × (version_in ops f b ≡ version_in ops f m → ⊥)
 
-pub tried_moved : (book : Book) (f b n p : ℕ) → Tried book f b (suc n) p → Moved book.ops f b p
+pub tried_moved : (book : Book) (f b n p : ℕ) → Tried book f b (suc n) p → Moved (history book).ops f b p
 tried_moved book f b n p h =
     let le = tried_from book f b n h.0 h.2 in
     let lt = h.3 in
-    let x = version_later book.ops f b h.0 le in
-    let y = version_later book.ops f h.0 h.1 (omega (arith, lt)) in
+    let x = version_later (history book).ops f b h.0 le in
+    let y = version_later (history book).ops f h.0 h.1 (omega (arith, lt)) in
     (h.1, omega (arith, le, lt), h.4, λ e. h.5 (omega (arith, x, y, e)))
 
 pub versions_after : (ops : List Op) (place : Option ℕ) (c : client.State) (taken : List TakenCall) (step : ℕ) (acts : ClientStep) → ((p : ℕ) (o : Op) → place ≡ Some p → slice_get ops p ≡ Some o → (acts.found ≡ None) ⊎ (changes o.word ≡ false)) → (f q : ℕ) → version_in (ops_with ops place c taken step acts) f q ≡ version_in ops f q
@@ -86,21 +88,34 @@ filter_set f m (o ∷ os) (suc p) old new at a b = ap (λ l. cond (changed_befor
 no_change : (f m : ℕ) (o : Op) → o.word ≡ words.Open → changed_before f m o ≡ false
 no_change f m o e = ap (λ w. (changes w && (o.file == f)) && option_map_or (λ p. nat_lt p m) o.point false) e
 
-pub same_value : (book more : Book) (f m p : ℕ) (old new : Op) → more.opening ≡ book.opening → more.ops ≡ slice_set book.ops p new → slice_get book.ops p ≡ Some old → old.word ≡ words.Open → new.word ≡ words.Open → value_at more f m ≡ value_at book f m
-same_value book more f m p old new opening are at a b =
-    ap (λ (l : List Opening). value_after (content_of l f) (latest (filter (changed_before f m) more.ops))) opening
-    ∙ ap (λ (l : List Op). value_after (content_of book.opening f) (latest (filter (changed_before f m) l))) are
-    ∙ ap (λ (l : List Op). value_after (content_of book.opening f) (latest l)) (filter_set f m book.ops p old new at (no_change f m old a) (no_change f m new b))
+filter_more : (p : Op → Bool) (xs ys : List Op) → filter p (xs ++ ys) ≡ filter p xs ++ filter p ys
+filter_more p [] ys = refl
+filter_more p (x ∷ xs) ys = by (p x) (filter_more p xs ys)
+  where
+    by : (b : Bool) → filter p (xs ++ ys) ≡ filter p xs ++ filter p ys → cond b (x ∷ filter p (xs ++ ys)) (filter p (xs ++ ys)) ≡ cond b (x ∷ filter p xs) (filter p xs) ++ filter p ys
+    by true e = ap (λ (l : List Op). x ∷ l) e
+    by false e = e
+
+pub same_value : (book more : Book) (f m p : ℕ) (old new : Op) → more.opening ≡ book.opening → more.raws ≡ book.raws → more.ops ≡ slice_set book.ops p new → slice_get book.ops p ≡ Some old → old.word ≡ words.Open → new.word ≡ words.Open → value_at more f m ≡ value_at book f m
+same_value book more f m p old new opening raws are at a b =
+    ap (λ (l : List Opening). value_after (content_of l f) (latest (filter (changed_before f m) (history more).ops))) opening
+    ∙ ap (λ (l : List Op). value_after (content_of book.opening f) (latest (filter (changed_before f m) (l ++ map op_of more.raws)))) are
+    ∙ ap (λ (l : List Raw). value_after (content_of book.opening f) (latest (filter (changed_before f m) (slice_set book.ops p new ++ map op_of l)))) raws
+    ∙ ap (λ (l : List Op). value_after (content_of book.opening f) (latest l)) (
+    filter_more (changed_before f m) (slice_set book.ops p new) (map op_of book.raws)
+    ∙ ap (λ (l : List Op). l ++ filter (changed_before f m) (map op_of book.raws)) (filter_set f m book.ops p old new at (no_change f m old a) (no_change f m new b))
+    ∙ sym (filter_more (changed_before f m) book.ops (map op_of book.raws))
+    )
 
 -- where an open has tried before, its file has moved
-pub moved_by : (book : Book) (taken : List TakenCall) (j : Job) (o : Op) → slice_get book.ops j.place ≡ Some o → IsTrying book (Some j) → FetchOf book taken j j.stage → stage_word j.stage ≡ words.Open → 1 < tries_of j.stage → Moved book.ops j.file o.begin (book.steps + 1)
+pub moved_by : (book : Book) (taken : List TakenCall) (j : Job) (o : Op) → slice_get book.ops j.place ≡ Some o → IsTrying book (Some j) → FetchOf book taken j j.stage → stage_word j.stage ≡ words.Open → 1 < tries_of j.stage → Moved (history book).ops j.file o.begin (book.steps + 1)
 moved_by book taken j o at trying fetch word more = by j.stage refl fetch word more
   where
     one_more : (n count : ℕ) → n ≡ suc count → (n ≡ 1 → ⊥) → (c : ℕ) × (count ≡ suc c)
     one_more n zero e more = absurd (more e)
     one_more n (suc c) e more = (c, refl)
 
-    fetched : (x tries : ℕ) → IsTried book taken j x tries → (tries ≡ 1 → ⊥) → Moved book.ops j.file o.begin (book.steps + 1)
+    fetched : (x tries : ℕ) → IsTried book taken j x tries → (tries ≡ 1 → ⊥) → Moved (history book).ops j.file o.begin (book.steps + 1)
     fetched x tries t more =
         let c = one_more tries t.count t.tries_is more in
         let begin : t.op.begin ≡ o.begin = ap (λ (z : Op). z.begin) (some_is t.op o (sym t.there ∙ at)) in
@@ -108,17 +123,17 @@ moved_by book taken j o at trying fetch word more = by j.stage refl fetch word m
         let a = m.1 in
         let b = m.2 in
         let past = t.past in
-        (m.0, omega (arith, a, begin), omega (arith, b, past), λ e. m.3 (ap (version_in book.ops j.file) begin ∙ e))
+        (m.0, omega (arith, a, begin), omega (arith, b, past), λ e. m.3 (ap (version_in (history book).ops j.file) begin ∙ e))
 
-    hashing : (tries : ℕ) → Trying book j tries → (tries ≡ 1 → ⊥) → Moved book.ops j.file o.begin (book.steps + 1)
+    hashing : (tries : ℕ) → Trying book j tries → (tries ≡ 1 → ⊥) → Moved (history book).ops j.file o.begin (book.steps + 1)
     hashing tries t more =
         let c = one_more tries t.count t.tries_is more in
         let begin : t.op.begin ≡ o.begin = ap (λ (z : Op). z.begin) (some_is t.op o (sym t.there ∙ at)) in
         let m = tried_moved book j.file t.op.begin c.0 (book.steps + 1) (subst (λ n. Tried book j.file t.op.begin n (book.steps + 1)) c.1 t.tried) in
         let a = m.1 in
-        (m.0, omega (arith, a, begin), m.2, λ e. m.3 (ap (version_in book.ops j.file) begin ∙ e))
+        (m.0, omega (arith, a, begin), m.2, λ e. m.3 (ap (version_in (history book).ops j.file) begin ∙ e))
 
-    by : (st : Stage) → j.stage ≡ st → FetchOf book taken j st → stage_word st ≡ words.Open → 1 < tries_of st → Moved book.ops j.file o.begin (book.steps + 1)
+    by : (st : Stage) → j.stage ≡ st → FetchOf book taken j st → stage_word st ≡ words.Open → 1 < tries_of st → Moved (history book).ops j.file o.begin (book.steps + 1)
     by (stage.Asking x) e f w more = absurd (omega (arith, more))
     by (stage.Hashing tries x) e f w more = hashing tries (trying j tries x refl e) (λ one. omega (arith, one, more))
     by (stage.Listing x g) e f w more = fetched g.first g.tries f.0.tried (λ one. omega (arith, one, more))
@@ -139,6 +154,7 @@ pub record Taking (book more : Book) (taken : List TakenCall) (j : Job) (o : Op)
   pub fetch : FetchOf book taken j j.stage
   pub trying : IsTrying book (Some j)
   pub opening : more.opening ≡ book.opening
+  pub raws : more.raws ≡ book.raws
 
 -- ---- calls under way
 

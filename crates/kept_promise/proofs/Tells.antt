@@ -16,7 +16,7 @@ use Rattle.hash_calls.specs.declared.message.LbProc.TheVariants as lb_proc
 use Rattle.wire.specs.declared.message.Pending.{Pending}
 use Rattle.trace_replay.specs.OwnCalls.{TakesCall}
 use Rattle.trace_replay.specs.Trail.{served_hashed}
-use Rattle.kept_promise.proofs.Common.{slice_get, cond, ◌==◌, ◌||◌, Contains, end_of, parse_of, server_waiting, Body, Message, Op, Task, chunk_bytes, Chunk, handle_bytes, Failed, Status, HashRange, Range, message_spell, MessageFits, Node, directory, file, node_of, told_chunks, hashes_of, piece_of, leased_of, File, Fetch, Stage, Value, TakenCall, Core, Seat, Session, Event.Serves, numbered, hashed_of, Book, value_at, version_at, Call.Lease, Call.Hash, Call.Read, Reply, Reply.Versioned, Reply.Hashed, Reply.Bytes, Ask, Queue, ask_message, told_message, Tree, Call.Walks, Reply.Walked, name_answer, happens, NameReply, Moment, Event, taken_at}
+use Rattle.kept_promise.proofs.Common.{slice_get, cond, ◌==◌, ◌||◌, Contains, end_of, parse_of, server_waiting, Body, Message, Op, Task, chunk_bytes, Chunk, handle_bytes, Failed, Status, HashRange, Range, message_spell, MessageFits, Node, directory, file, node_of, told_chunks, hashes_of, piece_of, leased_of, File, Fetch, Stage, Value, TakenCall, Core, Seat, Session, Event.Serves, numbered, hashed_of, Book, value_at, version_at, Call.Lease, Call.Hash, Call.Read, Reply, Reply.Versioned, Reply.Hashed, Reply.Bytes, Ask, Queue, ask_message, told_message, Tree, Call.Walks, Reply.Walked, name_answer, happens, NameReply, Moment, Event, taken_at, hashed_by}
 use Rattle.kept_promise.proofs.Statements.{ToldFits, CallFits}
 use Rattle.kept_promise.proofs.Lists.{some_is, nothing_there}
 use Rattle.kept_promise.proofs.Messages.{Job, job, job_of, lease_body, hash_body, AllAsks, Rising, IsAsked, hash_offset, IsTold, IsHashed, RefusedTold, HashTold, IsLeased, LeaseTold, IsRead, ReadTold, TriedBy, AnswerOf, IsFetch, IsReading, FetchOf, range_from, WalkCame, WalkTold, IsTakenFor, lease_xid}
@@ -36,6 +36,7 @@ use Rattle.path_calls.specs.Walk.{next_call}
 use Rattle.kept_promise.proofs.PathNames.{is_making}
 use Rattle.kept_promise.proofs.WalkReplies.{walk_reply, reply_told}
 use Rattle.kept_promise.proofs.Unused.{directory_unused}
+use Rattle.kept_promise.proofs.Turns.{has_owner, owned_hashed}
 
 -- ---- what a name stands for
 
@@ -350,6 +351,13 @@ hash_told laws book k qs n now x q lbfs xid term f offset us c kept was here tal
   tried_now book k qs n x q (record { lbfs = lbfs; xid = xid; call = Hash f offset }) us c j j.stage o waits (calls j o is waits) kept was talk e is refl,
 )
   where
+    -- it comes on a client's session
+    hashed_is : hashed_by k (Serves n now (message_spell (ask_message (record { lbfs = lbfs; xid = xid; call = Hash f offset })))) ≡ served_hashed k n (parse_of server_waiting (message_spell (ask_message (record { lbfs = lbfs; xid = xid; call = Hash f offset }))))
+    hashed_is =
+        let z = (kept.seats x.owner c was).session n here in
+        let owned = has_owner k.seats z.0 c (ap (numbered k.seats) z.2 ∙ was) in
+        owned_hashed k n now (message_spell (ask_message (record { lbfs = lbfs; xid = xid; call = Hash f offset }))) z.0 z.1 owned
+
     asks : (j : Job) (o : ℕ) → job c ≡ Some j → hash_offset j.stage xid ≡ Some o → (j.file ≡ f) × (o ≡ offset)
     asks j o is waits = (subst (AllAsks (IsAsked (job c))) e talk.asked).0 j o is waits
 
@@ -365,7 +373,7 @@ hash_told laws book k qs n now x q lbfs xid term f offset us c kept was here tal
     by j o is same (is_gone none at) = subst (λ (node : Result Node Status). HashTold (onward book 1 book.ops) (with_taken x xid (book.steps + 1)) j xid o (hash_answer term node (hash_range lbfs f offset))) (sym at) (gone_told book k qs n x q (record { lbfs = lbfs; xid = xid; call = Hash f offset }) f us c j kept was talk e is same.0 none)
     by j o is same (is_file g there at) =
         let held = subst (FileIs book f) there (kept.server.held f) in
-        let noted_bytes : (i : ℕ) (d : Chunk) → slice_get (told_chunks g.content (range_from offset)) i ≡ Some d → Contains (hashed_of book.moments) (chunk_bytes g.content d) = λ i d w. noted.hashed (chunk_bytes g.content d) (subst (λ (l : List (List ℕ)). Contains l (chunk_bytes g.content d)) (sym (ap (served_hashed k n) (parsed laws (record { lbfs = lbfs; xid = xid; call = Hash f offset }) fits) ∙ ap (λ node. bytes_told node (hash_range lbfs f offset)) at)) (contains_at (map (chunk_bytes g.content) (told_chunks g.content (hash_range lbfs f offset))) i (chunk_bytes g.content d) (map_at (chunk_bytes g.content) (told_chunks g.content (hash_range lbfs f offset)) i d w))) in
+        let noted_bytes : (i : ℕ) (d : Chunk) → slice_get (told_chunks g.content (range_from offset)) i ≡ Some d → Contains (hashed_of book.moments) (chunk_bytes g.content d) = λ i d w. noted.hashed (chunk_bytes g.content d) (subst (λ (l : List (List ℕ)). Contains l (chunk_bytes g.content d)) (sym (hashed_is ∙ ap (served_hashed k n) (parsed laws (record { lbfs = lbfs; xid = xid; call = Hash f offset }) fits) ∙ ap (λ node. bytes_told node (hash_range lbfs f offset)) at)) (contains_at (map (chunk_bytes g.content) (told_chunks g.content (hash_range lbfs f offset))) i (chunk_bytes g.content d) (map_at (chunk_bytes g.content) (told_chunks g.content (hash_range lbfs f offset)) i d w))) in
         subst (λ (node : Result Node Status). HashTold (onward book 1 book.ops) (with_taken x xid (book.steps + 1)) j xid o (hash_answer term node (hash_range lbfs f offset))) (sym at) (subst (λ (z : ℕ). IsHashed (onward book 1 book.ops) (with_taken x xid (book.steps + 1)) j xid z (hashes_of term g (hash_range lbfs f offset))) (sym same.1) (record {
           file = g;
           is = refl;

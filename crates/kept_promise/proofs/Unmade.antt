@@ -18,7 +18,7 @@ use Rattle.server_core.specs.declared.change.Wanted.TheVariants as wanted
 use Rattle.server_rules.specs.declared.told.Told.TheVariants as announced
 use Rattle.client_state.specs.State as client
 use Rattle.client_state.specs.declared.task.Stage.TheVariants as stage
-use Rattle.kept_promise.proofs.Common.{slice_get, at, Failed, FileChange, Wanted, Entry, Op, Core, Session, CoreStep, quiet, numbered, with_numbered, settles, settled_by, unless, Book, Reply.Changed, Told, Queue, told_message, value_at, later}
+use Rattle.kept_promise.proofs.Common.{slice_get, at, Failed, FileChange, Wanted, Entry, Op, Core, Session, CoreStep, quiet, numbered, with_numbered, settles, settled_by, unless, Book, Reply.Changed, Told, Queue, told_message, value_at, later, is_raw}
 use Rattle.server_core.specs.Closing.{makes_change, committed_by}
 use Rattle.server_core.specs.Recalling.{term_at}
 use Rattle.kept_promise.proofs.Lists.{some_is, nothing_there, all_map}
@@ -32,7 +32,7 @@ use Rattle.kept_promise.proofs.Messages.{Job, job, AnswerOf, IsAnswer, IsPending
 use Rattle.kept_promise.proofs.Orderly.{Went, Wanted as IsWantedReply}
 use Rattle.kept_promise.proofs.Later.{answer_later, close_later, Spares}
 use Rattle.kept_promise.proofs.Takes.{file_still, fresh_still}
-use Rattle.kept_promise.proofs.Turns.{turned_core}
+use Rattle.kept_promise.proofs.Turns.{turned_core, unnoted}
 use Rattle.kept_promise.proofs.Facts.{FileIs, IsServer, IsSession, IsKept}
 use Rattle.kept_promise.proofs.Leading.{Leads, downs_put, downs_put_in}
 use Rattle.kept_promise.proofs.Hangs.{core_is}
@@ -64,7 +64,7 @@ unmade_told c = record { xid = c.xid; reply = Changed (Failed status.Stale tt) }
 abbrev pub unmade_step : Core → (now : ℕ) → FileChange → List FileChange → CoreStep
 unmade_step k now c cs = record (quiet (record k { steps = k.steps + 1; server = unmade_server k.server now cs })) { down = record { session = c.session; message = told_message (unmade_told c) } ∷ [] }
 
-pub unmade_settles : (k : Core) (now : ℕ) (c : FileChange) (cs : List FileChange) (content : List ℕ) → SettlesOut k now c cs → c.what ≡ wanted.Content content → with_id k.server.tree.nodes c.file ≡ None → settles k now ≡ unmade_step k now c cs
+pub unmade_settles : (k : Core) (now : ℕ) (c : FileChange) (cs : List FileChange) (content : List ℕ) → SettlesOut k now c cs → c.what ≡ wanted.Content content → with_id k.server.tree.nodes c.file ≡ None → unnoted k (settles k now) ≡ unmade_step k now c cs
 unmade_settles k now c cs content out what none =
     out.is
     ∙ ap (λ (w : Wanted). settled_to k (makes_change before c w)) what
@@ -87,12 +87,12 @@ unmade_settles k now c cs content out what none =
 -- ---- the frame
 
 module _ (laws : FitLaws) (book : Book) (k : Core) (qs : List Queue) (now : ℕ) (c : FileChange) (cs : List FileChange) (content : List ℕ) (kept : IsKept book k qs) (out : SettlesOut k now c cs) (what : c.what ≡ wanted.Content content) (none : the_files.file_at k.server.tree c.file ≡ None)
-    (x : Session) (q : Queue) (here : numbered k.sessions c.session ≡ Some x) (unhung : x.hung ≡ false) (is : numbered qs c.session ≡ Some q) (p : IsPending book x.closing x.cut (job (kept.sessions c.session x q here is).seat) c.xid c.file content) where
+    (x : Session) (q : Queue) (here : numbered k.sessions c.session ≡ Some x) (unhung : x.hung ≡ false) (is : numbered qs c.session ≡ Some q) (owned : is_raw x ≡ false) (p : IsPending book x.closing x.cut (job (kept.sessions c.session x q here is owned).seat) c.xid c.file content) where
   abbrev n : ℕ
   n = c.session
 
   abbrev h : IsSession book k.seats k.server n x q
-  h = kept.sessions n x q here is
+  h = kept.sessions n x q here is owned
 
   abbrev t : Told
   t = unmade_told c
@@ -162,7 +162,7 @@ module _ (laws : FitLaws) (book : Book) (k : Core) (qs : List Queue) (now : ℕ)
   kept_unmade : IsKept more (turned_core k more s k.seats k.sessions) (with_numbered qs n after)
   kept_unmade =
       let grows = grows_same book 1 in
-      kept_told book more k qs now c cs x q (later k.server.leasing now) k.server.tree k.server.journal k.server.index (Changed (Failed status.Stale tt)) None kept out.out here is (record {
+      kept_told book more k qs now c cs x q (later k.server.leasing now) k.server.tree k.server.journal k.server.index (Changed (Failed status.Stale tt)) None kept out.out here is owned (record {
         goes = goes_same book 1 kept.sound;
         server = server_unmade;
         journal_is = kept.journal;
@@ -182,7 +182,7 @@ module _ (laws : FitLaws) (book : Book) (k : Core) (qs : List Queue) (now : ℕ)
 
   pub leads_unmade : Leads book qs (unmade_step k now c cs)
   leads_unmade = record {
-    sends = record { replies = []; replies_fit = tt; asks = []; up_is = refl; recalls = []; recalls_fit = tt; tolds = (n, t) ∷ []; down_is = refl };
+    sends = record { replies = []; replies_fit = tt; asks = []; up_is = refl; strays = []; strays_cut = tt; recalls = []; recalls_fit = tt; tolds = (n, t) ∷ []; down_is = refl };
     more = more;
     moments = refl;
     opening = refl;

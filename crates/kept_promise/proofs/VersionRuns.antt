@@ -36,21 +36,22 @@ use Rattle.kept_promise.proofs.Shapes.{TaskGood, Good, TookIn, TaskTook, good_an
 use Rattle.kept_promise.proofs.Found.{heard_quiet, heard_apart, Quietly, IsFresh, step_found, took_finds, command_finds}
 use Rattle.kept_promise.proofs.Adjusts.{with_kept}
 use Rattle.kept_promise.proofs.EventCases.{IsChange, Remembers, Settled, takens_else, takens_with, IsStill, event_cases, old_job}
-use Rattle.kept_promise.proofs.Versions.{of_numbered, version_by, early_of, by_counts, count_replaced, count_appended, CameTo, Since, Attempt, Untold, takens, JobVersion, IsNow, HaveVersions, Alike, alike_same, Extends, extends_same, came_alike, since_alike, job_alike, JobCame, versions_onward}
+use Rattle.kept_promise.proofs.Versions.{of_numbered, version_by, version_split, versions_later, early_of, by_counts, count_replaced, count_appended, CameTo, Since, Attempt, Untold, takens, JobVersion, IsNow, HaveVersions, Alike, alike_same, Extends, extends_same, came_alike, since_alike, job_alike, JobCame, versions_onward}
 use Rattle.kept_promise.proofs.Taking.{versions_after}
 use Rattle.kept_promise.proofs.CommandOps.{made_by, made_later, made_quiet, made_point, last_right, old_jobs}
 use Rattle.kept_promise.proofs.StepCases.{IsOpenedBy, IsOfFile, IsPlain, got_cases, walk_cases, command_cases}
 use Rattle.kept_promise.proofs.Caches.{fresh_in_is}
 use Rattle.kept_promise.proofs.PathNames.{IsSmall}
+use Rattle.kept_promise.proofs.Turns.{has_owner}
 
-abbrev pub VersionsAt : (all : List Moment) → (base : ℕ → ℕ) → (past : List Moment) → Core → Type 0
+abbrev pub VersionsAt : (all : List Moment) → (base : ℕ → ℕ → ℕ) → (past : List Moment) → Core → Type 0
 VersionsAt all base past k = HaveVersions all base (taken_of past) k.sessions k.seats k.ops
 
-abbrev pub VersionsBy : (all : List Moment) → (base : ℕ → ℕ) → (past : List Moment) → Core → Event → CoreStep → Type 0
+abbrev pub VersionsBy : (all : List Moment) → (base : ℕ → ℕ → ℕ) → (past : List Moment) → Core → Event → CoreStep → Type 0
 VersionsBy all base past k e t = HaveVersions all base (taken_of past ++ all_said (k.steps + 1) (client_of k e) (taken_by k (client_of k e) e)) t.core.sessions t.core.seats t.core.ops
 
 -- nothing is said
-unsaid : (all : List Moment) → (base : ℕ → ℕ) → (said : List Said) (sessions : List Session) (seats : List Seat) (ops : List Op) → HaveVersions all base said sessions seats ops → HaveVersions all base (said ++ []) sessions seats ops
+unsaid : (all : List Moment) → (base : ℕ → ℕ → ℕ) → (said : List Said) (sessions : List Session) (seats : List Seat) (ops : List Op) → HaveVersions all base said sessions seats ops → HaveVersions all base (said ++ []) sessions seats ops
 unsaid all base said sessions seats ops h = subst (λ z. HaveVersions all base z sessions seats ops) (sym (append-nil said)) h
 
 -- the points of operations are past
@@ -72,7 +73,7 @@ not_taken floor (t ∷ taken) y q under le e = by (t.xid == y) refl e (not_taken
 -- ---- clients and operations are as they were, but for a change that is made
 
 -- clients with a job are as they were, and operations
-versions_moved : (all : List Moment) → (base : ℕ → ℕ) → (n : ℕ) (said : List Said) (sessions later : List Session) (seats next : List Seat) (ops : List Op) → SaidBy n said → ((i : ℕ) (seat : Seat) (j : Job) → numbered next i ≡ Some seat → job seat ≡ Some j → (old : Seat) × (es : Entries) × (ix : Indexed × ℕ) × (numbered seats i ≡ Some old) × (seat ≡ with_kept old es ix)) → ((i : ℕ) (seat : Seat) → numbered seats i ≡ Some seat → Extends n (takens sessions seat) (takens later seat)) → HaveVersions all base said sessions seats ops → HaveVersions all base said later next ops
+versions_moved : (all : List Moment) → (base : ℕ → ℕ → ℕ) → (n : ℕ) (said : List Said) (sessions later : List Session) (seats next : List Seat) (ops : List Op) → SaidBy n said → ((i : ℕ) (seat : Seat) (j : Job) → numbered next i ≡ Some seat → job seat ≡ Some j → (old : Seat) × (es : Entries) × (ix : Indexed × ℕ) × (numbered seats i ≡ Some old) × (seat ≡ with_kept old es ix)) → ((i : ℕ) (seat : Seat) → numbered seats i ≡ Some seat → Extends n (takens sessions seat) (takens later seat)) → HaveVersions all base said sessions seats ops → HaveVersions all base said later next ops
 versions_moved all base n said sessions later seats next ops past jobs newer h = versions_onward all base n said said sessions later seats next ops ops past (λ f q le. refl) (λ p q o at is. refl)
     (λ i seat j r here is at. let w = jobs i seat j here is in inl (w.0, r, w.3, old_job w.0 seat w.1 w.2 j w.4 is, at, alike_same said r, subst (λ (z : Seat). Extends n (takens sessions w.0) (takens later z)) (sym w.4) (newer i w.0 w.3)))
     (λ p len q digest r at is point. inl (at, alike_same said r)) h
@@ -96,13 +97,13 @@ pub change_versions : (k : Core) (ops : List Op) (c : IsChange k ops) (f q : ℕ
 change_versions k ops c f q le = too_late f q (k.steps + 1) (record c.op { file = c.file; point = Some (k.steps + 1) }) refl (omega (arith, le)) ∙ sym (unpointed f q c.op c.unmade.1)
 
 -- an operation's change was made
-versions_change : (book : Book) (past : List Moment) (k : Core) (qs : List Queue) (ops : List Op) → IsKept book k qs → CountedAt past k → IsChange k ops → VersionsAt book.moments (early_of book.opening) past k → HaveVersions book.moments (early_of book.opening) (taken_of past) k.sessions k.seats ops
+versions_change : (book : Book) (past : List Moment) (k : Core) (qs : List Queue) (ops : List Op) → IsKept book k qs → CountedAt past k → IsChange k ops → VersionsAt book.moments (early_of book.opening book.raws) past k → HaveVersions book.moments (early_of book.opening book.raws) (taken_of past) k.sessions k.seats ops
 versions_change book past k qs ops kept counted c h =
-    subst (HaveVersions book.moments (early_of book.opening) (taken_of past) k.sessions k.seats) (sym c.is)
-    (versions_onward book.moments (early_of book.opening) k.steps (taken_of past) (taken_of past) k.sessions k.sessions k.seats k.seats k.ops (slice_set k.ops c.place new) counted.taken_by (λ f q le. ap (λ z. z + 1) (count_replaced f q k.ops c.place c.op new c.there (change_versions k ops c f q le))) (λ p q o at is. ap (λ z. z + 1) (count_replaced o.file q k.ops c.place c.op new c.there (change_versions k ops c o.file q (points_of book k qs kept p q o at is))))
+    subst (HaveVersions book.moments (early_of book.opening book.raws) (taken_of past) k.sessions k.seats) (sym c.is)
+    (versions_onward book.moments (early_of book.opening book.raws) k.steps (taken_of past) (taken_of past) k.sessions k.sessions k.seats k.seats k.ops (slice_set k.ops c.place new) counted.taken_by (λ f q le. ap (λ z. z + 1) (count_replaced f q k.ops c.place c.op new c.there (change_versions k ops c f q le))) (λ p q o at is. ap (λ z. z + 1) (count_replaced o.file q k.ops c.place c.op new c.there (change_versions k ops c o.file q (points_of book k qs kept p q o at is))))
     (λ i z j r here job_is was. elim (of_replaced k.ops c.place new j.place r was) [
       | inr old ↦ inl (z, r, here, job_is, old.1, alike_same (taken_of past) r, extends_same k.steps (takens k.sessions z))
-      | inl made ↦ subst (JobCame (early_of book.opening) k.steps (taken_of past) (taken_of past) k.sessions k.sessions k.seats k.ops (slice_set k.ops c.place new) i z j) (sym made.1) (job_changed i z j here job_is made.0 c.kind)
+      | inl made ↦ subst (JobCame (early_of book.opening book.raws) k.steps (taken_of past) (taken_of past) k.sessions k.sessions k.seats k.ops (slice_set k.ops c.place new) i z j) (sym made.1) (job_changed i z j here job_is made.0 c.kind)
     ])
     (λ p len q digest r was e point. elim (of_replaced k.ops c.place new p r was) [
       | inr old ↦ inl (old.1, alike_same (taken_of past) r)
@@ -115,24 +116,24 @@ versions_change book past k qs ops kept counted c h =
     there : slice_get book.ops c.place ≡ Some c.op
     there = ap (λ (l : List Op). slice_get l c.place) kept.ops ∙ c.there
 
-    job_changed : (i : ℕ) (z : Seat) (j : Job) → numbered k.seats i ≡ Some z → job z ≡ Some j → j.place ≡ c.place → ((c.op.word ≡ words.Close) × (c.file ≡ c.op.file) × Remembers k c.place) ⊎ ((gets_file c.op.word ≡ true) × (c.op.file ≡ 0)) → JobCame (early_of book.opening) k.steps (taken_of past) (taken_of past) k.sessions k.sessions k.seats k.ops (slice_set k.ops c.place new) i z j new
+    job_changed : (i : ℕ) (z : Seat) (j : Job) → numbered k.seats i ≡ Some z → job z ≡ Some j → j.place ≡ c.place → ((c.op.word ≡ words.Close) × (c.file ≡ c.op.file) × Remembers k c.place) ⊎ ((gets_file c.op.word ≡ true) × (c.op.file ≡ 0)) → JobCame (early_of book.opening book.raws) k.steps (taken_of past) (taken_of past) k.sessions k.sessions k.seats k.ops (slice_set k.ops c.place new) i z j new
     job_changed i z j here job_is at (inl own) = inl (z, c.op, here, job_is, ap (slice_get k.ops) at ∙ c.there, record { file = own.1; forth = λ s m e. (m, e); back = λ s m e. (m, e) }, extends_same k.steps (takens k.sessions z))
     job_changed i z j here job_is at (inr make) =
         let of = (kept.seats i z here).task j job_is in
         let same : of.op ≡ c.op = some_is of.op c.op (sym of.there ∙ ap (slice_get book.ops) at ∙ there) in
         inr (made_job j.stage (ap gets_file (sym of.word ∙ ap (λ (z : Op). z.word) same) ∙ make.0))
       where
-        made_job : (s : Stage) → gets_file (stage_word s) ≡ true → JobVersion (early_of book.opening) (taken_of past) (slice_set k.ops c.place new) (takens k.sessions z) new s
+        made_job : (s : Stage) → gets_file (stage_word s) ≡ true → JobVersion (early_of book.opening book.raws) (taken_of past) (slice_set k.ops c.place new) (takens k.sessions z) new s
         made_job (stage.Walking x w) e = tt
         made_job s e = absurd cc
 
-versions_still : (book : Book) (past : List Moment) (k : Core) (qs : List Queue) (e : Event) (t : CoreStep) → IsKept book k qs → IsStill k e t → CountedAt past k → VersionsAt book.moments (early_of book.opening) past k → VersionsBy book.moments (early_of book.opening) past k e t
+versions_still : (book : Book) (past : List Moment) (k : Core) (qs : List Queue) (e : Event) (t : CoreStep) → IsKept book k qs → IsStill k e t → CountedAt past k → VersionsAt book.moments (early_of book.opening book.raws) past k → VersionsBy book.moments (early_of book.opening book.raws) past k e t
 versions_still book past k qs e t kept s counted h =
-    subst (λ (l : List Message). HaveVersions book.moments (early_of book.opening) (taken_of past ++ all_said (k.steps + 1) (client_of k e) l) t.core.sessions t.core.seats t.core.ops) (sym s.silent.0)
-    (unsaid book.moments (early_of book.opening) (taken_of past) t.core.sessions t.core.seats t.core.ops (versions_moved book.moments (early_of book.opening) k.steps (taken_of past) k.sessions t.core.sessions k.seats t.core.seats t.core.ops counted.taken_by s.jobs s.newer (by s.ops)))
+    subst (λ (l : List Message). HaveVersions book.moments (early_of book.opening book.raws) (taken_of past ++ all_said (k.steps + 1) (client_of k e) l) t.core.sessions t.core.seats t.core.ops) (sym s.silent.0)
+    (unsaid book.moments (early_of book.opening book.raws) (taken_of past) t.core.sessions t.core.seats t.core.ops (versions_moved book.moments (early_of book.opening book.raws) k.steps (taken_of past) k.sessions t.core.sessions k.seats t.core.seats t.core.ops counted.taken_by s.jobs s.newer (by s.ops)))
   where
-    by : Settled k t.core.ops → HaveVersions book.moments (early_of book.opening) (taken_of past) k.sessions k.seats t.core.ops
-    by (inl same) = subst (HaveVersions book.moments (early_of book.opening) (taken_of past) k.sessions k.seats) (sym same) h
+    by : Settled k t.core.ops → HaveVersions book.moments (early_of book.opening book.raws) (taken_of past) k.sessions k.seats t.core.ops
+    by (inl same) = subst (HaveVersions book.moments (early_of book.opening book.raws) (taken_of past) k.sessions k.seats) (sym same) h
     by (inr c) = versions_change book past k qs t.core.ops kept counted c h
 
 -- ---- a client's own operation
@@ -273,7 +274,7 @@ pointed_as o taken step x u file len q digest is w g = ap (λ z. point_if (has_p
 
 -- what does so, where a content of its file is fresh to its client that acts
 now_gave : (book : Book) (k : Core) (qs : List Queue) → IsKept book k qs → (e : Event) (c now f : ℕ) (seat : Seat) (v : Content) → Contains book.moments (moment k e) → acts_at k e ≡ Some (c, now) → numbered k.seats c ≡ Some seat → fresh_content seat.client.cache f now ≡ Some v → (happens k e).up ≡ []
-    → (o : Op) → o.client ≡ c → o.file ≡ f → o.end ≡ Some (k.steps + 1) → (q : ℕ) → q ≡ k.steps + 1 → (version : ℕ) → version_by (early_of book.opening) k.ops f (k.steps + 1) ≡ version → IsNow book.moments o q version
+    → (o : Op) → o.client ≡ c → o.file ≡ f → o.end ≡ Some (k.steps + 1) → (q : ℕ) → q ≡ k.steps + 1 → (version : ℕ) → version_by (early_of book.opening book.raws) k.ops f (k.steps + 1) ≡ version → IsNow book.moments o q version
 now_gave book k qs kept e c now f seat v there acts here fresh quiet o client file end q at version is = record {
   ends = record {
     moment = moment k e;
@@ -292,7 +293,7 @@ now_gave book k qs kept e c now f seat v there acts here fresh quiet o client fi
       let w = fresh_in_is seat.client.cache f now v fresh in
       let g = leased (moment k e) c now f seat v there acts here w.kept w.fresh in
       let held = subst (FileIs book f) g.1 (kept.server.held f) in
-      sym (held.4 ∙ g.2) ∙ ap (λ (n : ℕ). version_at book f (n + 1)) kept.steps ∙ ap (λ (l : List Op). version_by (early_of book.opening) l f (k.steps + 1)) kept.ops ∙ is;
+      sym (held.4 ∙ g.2) ∙ ap (λ (n : ℕ). version_at book f (n + 1)) kept.steps ∙ version_split book f (k.steps + 1) ∙ ap (λ (l : List Op). version_by (early_of book.opening book.raws) l f (k.steps + 1)) kept.ops ∙ is;
 }
 
 unopened : (a l : Ended) → (IsOpenedBy a.outcome → ⊥) → Some a ≡ Some l → IsOpenedBy l.outcome → ⊥
@@ -361,7 +362,7 @@ made_unchanging : (k : Core) (c now : ℕ) (d : Command) (seat : Seat) (s : clie
 made_unchanging k c now d seat s acts f q = elim (made_quiet k c now d seat s acts acts.ended) [ inl none ↦ unpointed f q (made_by k c now d seat s acts) none | inr word ↦ unchanging f q (made_by k c now d seat s acts) word ]
 
 at_once : (book : Book) (k : Core) (qs : List Queue) (c now : ℕ) (d : Command) (seat : Seat) → IsKept book k qs → Contains book.moments (moment k (Does c now d)) → IsSmall d → numbered k.seats c ≡ Some seat
-    → (let r = command_step seat.client d now in let new = made_by k c now d seat r.0 r.1 in (q len : ℕ) (digest : List ℕ) → new.outcome ≡ told.Opened len digest → new.point ≡ Some q → IsNow book.moments new q (version_by (early_of book.opening) (k.ops ++ new ∷ []) new.file q))
+    → (let r = command_step seat.client d now in let new = made_by k c now d seat r.0 r.1 in (q len : ℕ) (digest : List ℕ) → new.outcome ≡ told.Opened len digest → new.point ≡ Some q → IsNow book.moments new q (version_by (early_of book.opening book.raws) (k.ops ++ new ∷ []) new.file q))
 at_once book k qs c now d seat kept noted small here q len digest opened point =
     let r = command_step seat.client d now in
     let new : Op = made_by k c now d seat r.0 r.1 in
@@ -370,13 +371,13 @@ at_once book k qs c now d seat kept noted small here q len digest opened point =
     let a = command_opens seat.client d now l.0 l.1 l.2 in
     let q_is : q ≡ k.steps + 1 = made_point k c now d seat r.0 r.1 r.1.ended q point in
     let file : new.file ≡ file_of d = file_after start r.0 [] (k.steps + 1) r.1 (command_finds seat.client d now small) in
-    now_gave book k qs kept (Does c now d) c now (file_of d) seat a.content noted refl here a.fresh (ap (λ (o : Option Seat). (does k c now d o).up) here ∙ a.quiet) new (client_after start r.0 [] (k.steps + 1) r.1) file (end_after start r.0 [] (k.steps + 1) r.1 l.0 l.1) q q_is (version_by (early_of book.opening) (k.ops ++ new ∷ []) new.file q)
-    (sym (ap (version_by (early_of book.opening) (k.ops ++ new ∷ []) new.file) q_is ∙ ap (λ (f : ℕ). version_by (early_of book.opening) (k.ops ++ new ∷ []) f (k.steps + 1)) file ∙ by_counts (early_of book.opening) (k.ops ++ new ∷ []) k.ops (file_of d) (k.steps + 1) (ap (λ z. z + 1) (count_appended (file_of d) (k.steps + 1) k.ops new (made_unchanging k c now d seat r.0 r.1 (file_of d) (k.steps + 1))))))
+    now_gave book k qs kept (Does c now d) c now (file_of d) seat a.content noted refl here a.fresh (ap (λ (o : Option Seat). (does k c now d o).up) here ∙ a.quiet) new (client_after start r.0 [] (k.steps + 1) r.1) file (end_after start r.0 [] (k.steps + 1) r.1 l.0 l.1) q q_is (version_by (early_of book.opening book.raws) (k.ops ++ new ∷ []) new.file q)
+    (sym (ap (version_by (early_of book.opening book.raws) (k.ops ++ new ∷ []) new.file) q_is ∙ ap (λ (f : ℕ). version_by (early_of book.opening book.raws) (k.ops ++ new ∷ []) f (k.steps + 1)) file ∙ by_counts (early_of book.opening book.raws) (k.ops ++ new ∷ []) k.ops (file_of d) (k.steps + 1) (ap (λ z. z + 1) (count_appended (file_of d) (k.steps + 1) k.ops new (made_unchanging k c now d seat r.0 r.1 (file_of d) (k.steps + 1))))))
 
 -- a connection is lost
 
-versions_lost : (book : Book) (past : List Moment) (k : Core) (qs : List Queue) (c : ℕ) (seat : Seat) → IsKept book k qs → numbered k.seats c ≡ Some seat → CountedAt past k → VersionsAt book.moments (early_of book.opening) past k → VersionsBy book.moments (early_of book.opening) past k (Cuts c) (cuts_if k c seat true)
-versions_lost book past k qs c seat kept here counted h = unsaid book.moments (early_of book.opening) (taken_of past) (cut_session k.sessions seat.session (session_of k.sessions seat.session)) (with_numbered k.seats c (gone_seat seat.client.task)) (ops_with k.ops seat.place gone taken (k.steps + 1) (ended_by seat.client.task lost)) (by seat.client.task)
+versions_lost : (book : Book) (past : List Moment) (k : Core) (qs : List Queue) (c : ℕ) (seat : Seat) → IsKept book k qs → numbered k.seats c ≡ Some seat → CountedAt past k → VersionsAt book.moments (early_of book.opening book.raws) past k → VersionsBy book.moments (early_of book.opening book.raws) past k (Cuts c) (cuts_if k c seat true)
+versions_lost book past k qs c seat kept here counted h = unsaid book.moments (early_of book.opening book.raws) (taken_of past) (cut_session k.sessions seat.session (session_of k.sessions seat.session)) (with_numbered k.seats c (gone_seat seat.client.task)) (ops_with k.ops seat.place gone taken (k.steps + 1) (ended_by seat.client.task lost)) (by seat.client.task)
   where
     lost : Ended
     lost = record { outcome = outcome.Lost; rests_on = 0 }
@@ -416,8 +417,8 @@ versions_lost book past k qs c seat kept here counted h = unsaid book.moments (e
         running_not z = absurd cc
     not_opened (Some u) o run len digest z = absurd cc
 
-    by : (t : Option Task) → HaveVersions book.moments (early_of book.opening) (taken_of past) (cut_session k.sessions seat.session (session_of k.sessions seat.session)) (with_numbered k.seats c (gone_seat t)) (ops_with k.ops seat.place gone taken (k.steps + 1) (ended_by t lost))
-    by t = versions_onward book.moments (early_of book.opening) k.steps (taken_of past) (taken_of past) k.sessions (cut_session k.sessions seat.session (session_of k.sessions seat.session)) k.seats (with_numbered k.seats c (gone_seat t)) k.ops (ops_with k.ops seat.place gone taken (k.steps + 1) (ended_by t lost)) counted.taken_by (λ f q le. versions_after k.ops seat.place gone taken (k.steps + 1) (ended_by t lost) (λ p o e at. inl (ended_none t)) f q) (λ p q o at is. versions_after k.ops seat.place gone taken (k.steps + 1) (ended_by t lost) (λ p o e at. inl (ended_none t)) o.file q)
+    by : (t : Option Task) → HaveVersions book.moments (early_of book.opening book.raws) (taken_of past) (cut_session k.sessions seat.session (session_of k.sessions seat.session)) (with_numbered k.seats c (gone_seat t)) (ops_with k.ops seat.place gone taken (k.steps + 1) (ended_by t lost))
+    by t = versions_onward book.moments (early_of book.opening book.raws) k.steps (taken_of past) (taken_of past) k.sessions (cut_session k.sessions seat.session (session_of k.sessions seat.session)) k.seats (with_numbered k.seats c (gone_seat t)) k.ops (ops_with k.ops seat.place gone taken (k.steps + 1) (ended_by t lost)) counted.taken_by (λ f q le. versions_after k.ops seat.place gone taken (k.steps + 1) (ended_by t lost) (λ p o e at. inl (ended_none t)) f q) (λ p q o at is. versions_after k.ops seat.place gone taken (k.steps + 1) (ended_by t lost) (λ p o e at. inl (ended_none t)) o.file q)
         (λ i z j r there is at. elim (of_numbered k.seats c (gone_seat t) i z there) [
           | inl mine ↦ nothing_there j (sym (no_job (place_after seat.place (ended_by t lost).ended)) ∙ ap job (sym mine.1) ∙ is)
           | inr other ↦ elim (ops_shape k.ops seat.place gone taken (k.steps + 1) (ended_by t lost) j.place r at) [
@@ -432,10 +433,10 @@ versions_lost book past k qs c seat kept here counted h = unsaid book.moments (e
 
 -- ---- a command
 
-versions_does : (book more : Book) (past : List Moment) (k : Core) (qs after : List Queue) (c now : ℕ) (d : Command) (seat : Seat) → IsKept book k qs → Contains book.moments (moment k (Does c now d)) → IsSmall d → numbered k.seats c ≡ Some seat → IsKept more (does k c now d (Some seat)).core after → CountedAt past k → VersionsAt book.moments (early_of book.opening) past k → VersionsBy book.moments (early_of book.opening) past k (Does c now d) (does k c now d (Some seat))
+versions_does : (book more : Book) (past : List Moment) (k : Core) (qs after : List Queue) (c now : ℕ) (d : Command) (seat : Seat) → IsKept book k qs → Contains book.moments (moment k (Does c now d)) → IsSmall d → numbered k.seats c ≡ Some seat → IsKept more (does k c now d (Some seat)).core after → CountedAt past k → VersionsAt book.moments (early_of book.opening book.raws) past k → VersionsBy book.moments (early_of book.opening book.raws) past k (Does c now d) (does k c now d (Some seat))
 versions_does book more past k qs after c now d seat kept noted small here left counted h =
     let r = command_step seat.client d now in
-    unsaid book.moments (early_of book.opening) (taken_of past) (later r.1) (with_numbered k.seats c (record seat { client = r.0; place = place_with seat.place (length k.ops) r.1.ended })) (k.ops ++ new r.0 r.1 ∷ [])
+    unsaid book.moments (early_of book.opening book.raws) (taken_of past) (later r.1) (with_numbered k.seats c (record seat { client = r.0; place = place_with seat.place (length k.ops) r.1.ended })) (k.ops ++ new r.0 r.1 ∷ [])
     (grown r.0 r.1 (at_once book k qs c now d seat kept noted small here) (own_job r.0 r.1 (kept.seats c seat here).matched (λ Q R fresh free. (good_command Q R seat.client fresh d now free).0) (λ t e. (busy_command seat.client d now t e).1)))
   where
     new : client.State → ClientStep → Op
@@ -474,11 +475,11 @@ versions_does book more past k qs after c now d seat kept noted small here left 
 
     OwnJob : (s : client.State) (acts : ClientStep) → Type 0
     OwnJob s acts = (j : Job) (r : Op) → job_of (place_with seat.place (length k.ops) acts.ended) s.task ≡ Some j → slice_get (k.ops ++ made_by k c now d seat s acts ∷ []) j.place ≡ Some r
-        → JobCame (early_of book.opening) k.steps (taken_of past) (taken_of past) k.sessions (commanded_sessions k.sessions seat.session (session_of k.sessions seat.session) seat.place (length k.ops) (word_of d) acts) k.seats k.ops (k.ops ++ made_by k c now d seat s acts ∷ []) c (record seat { client = s; place = place_with seat.place (length k.ops) acts.ended }) j r
+        → JobCame (early_of book.opening book.raws) k.steps (taken_of past) (taken_of past) k.sessions (commanded_sessions k.sessions seat.session (session_of k.sessions seat.session) seat.place (length k.ops) (word_of d) acts) k.seats k.ops (k.ops ++ made_by k c now d seat s acts ∷ []) c (record seat { client = s; place = place_with seat.place (length k.ops) acts.ended }) j r
 
     own_job : (s : client.State) (acts : ClientStep) → IsMatched seat → ((Q : ℕ → ℕ → Type 0) (R : ℕ → Type 0) → R seat.client.next_xid → TaskGood Q R seat.client.task → TaskGood Q R s.task) → ((t : Task) → seat.client.task ≡ Some t → s ≡ at_clock seat.client now)
         → (j : Job) (r : Op) → job_of (place_with seat.place (length k.ops) acts.ended) s.task ≡ Some j → slice_get (k.ops ++ made_by k c now d seat s acts ∷ []) j.place ≡ Some r
-        → JobCame (early_of book.opening) k.steps (taken_of past) (taken_of past) k.sessions (commanded_sessions k.sessions seat.session (session_of k.sessions seat.session) seat.place (length k.ops) (word_of d) acts) k.seats k.ops (k.ops ++ made_by k c now d seat s acts ∷ []) c (record seat { client = s; place = place_with seat.place (length k.ops) acts.ended }) j r
+        → JobCame (early_of book.opening book.raws) k.steps (taken_of past) (taken_of past) k.sessions (commanded_sessions k.sessions seat.session (session_of k.sessions seat.session) seat.place (length k.ops) (word_of d) acts) k.seats k.ops (k.ops ++ made_by k c now d seat s acts ∷ []) c (record seat { client = s; place = place_with seat.place (length k.ops) acts.ended }) j r
     own_job s acts (inl (no_place, free)) good busy j r is at = by acts.ended (subst (λ l. job_of (place_with l (length k.ops) acts.ended) s.task ≡ Some j) no_place is)
       where
         taken : List TakenCall
@@ -487,13 +488,13 @@ versions_does book more past k qs after c now d seat kept noted small here left 
         all : List Op
         all = k.ops ++ made_by k c now d seat s acts ∷ []
 
-        by : (e : Option Ended) → job_of (place_with None (length k.ops) e) s.task ≡ Some j → JobCame (early_of book.opening) k.steps (taken_of past) (taken_of past) k.sessions (commanded_sessions k.sessions seat.session (session_of k.sessions seat.session) seat.place (length k.ops) (word_of d) acts) k.seats k.ops (k.ops ++ made_by k c now d seat s acts ∷ []) c (record seat { client = s; place = place_with seat.place (length k.ops) acts.ended }) j r
+        by : (e : Option Ended) → job_of (place_with None (length k.ops) e) s.task ≡ Some j → JobCame (early_of book.opening book.raws) k.steps (taken_of past) (taken_of past) k.sessions (commanded_sessions k.sessions seat.session (session_of k.sessions seat.session) seat.place (length k.ops) (word_of d) acts) k.seats k.ops (k.ops ++ made_by k c now d seat s acts ∷ []) c (record seat { client = s; place = place_with seat.place (length k.ops) acts.ended }) j r
         by (Some e) is = nothing_there j is
         by None is =
             let place : length k.ops ≡ j.place = some_is (length k.ops) j.place (job_place (Some (length k.ops)) s.task j is) in
             let same : new s acts ≡ r = some_is (new s acts) r (sym (at_end k.ops (new s acts)) ∙ ap (slice_get (k.ops ++ new s acts ∷ [])) place ∙ at) in
-            let on = subst (TaskGood (Attempt (early_of book.opening) (taken_of past) all taken (new s acts)) (Untold (taken_of past) taken (new s acts))) (job_task (Some (length k.ops)) s.task j is) (good (Attempt (early_of book.opening) (taken_of past) all taken (new s acts)) (Untold (taken_of past) taken (new s acts)) (fresh s acts taken seat.client.next_xid) (subst (TaskGood (Attempt (early_of book.opening) (taken_of past) all taken (new s acts)) (Untold (taken_of past) taken (new s acts))) (sym free) tt)) in
-            inr (subst (λ (z : Op). JobVersion (early_of book.opening) (taken_of past) all taken z j.stage) same on)
+            let on = subst (TaskGood (Attempt (early_of book.opening book.raws) (taken_of past) all taken (new s acts)) (Untold (taken_of past) taken (new s acts))) (job_task (Some (length k.ops)) s.task j is) (good (Attempt (early_of book.opening book.raws) (taken_of past) all taken (new s acts)) (Untold (taken_of past) taken (new s acts)) (fresh s acts taken seat.client.next_xid) (subst (TaskGood (Attempt (early_of book.opening book.raws) (taken_of past) all taken (new s acts)) (Untold (taken_of past) taken (new s acts))) (sym free) tt)) in
+            inr (subst (λ (z : Op). JobVersion (early_of book.opening book.raws) (taken_of past) all taken z j.stage) same on)
     own_job s acts (inr (i, was)) good busy j r is at =
         let place = job_place seat.place seat.client.task i was in
         let same = busy (record { file = i.file; stage = i.stage }) (job_task seat.place seat.client.task i was) in
@@ -504,18 +505,18 @@ versions_does book more past k qs after c now d seat kept noted small here left 
         by None w q = nothing_there i.place w
         by (Some p) w q = q
 
-    grown : (s : client.State) (acts : ClientStep) → ((q len : ℕ) (digest : List ℕ) → (made_by k c now d seat s acts).outcome ≡ told.Opened len digest → (made_by k c now d seat s acts).point ≡ Some q → IsNow book.moments (made_by k c now d seat s acts) q (version_by (early_of book.opening) (k.ops ++ made_by k c now d seat s acts ∷ []) (made_by k c now d seat s acts).file q))
+    grown : (s : client.State) (acts : ClientStep) → ((q len : ℕ) (digest : List ℕ) → (made_by k c now d seat s acts).outcome ≡ told.Opened len digest → (made_by k c now d seat s acts).point ≡ Some q → IsNow book.moments (made_by k c now d seat s acts) q (version_by (early_of book.opening book.raws) (k.ops ++ made_by k c now d seat s acts ∷ []) (made_by k c now d seat s acts).file q))
         → ((j : Job) (r : Op) → job_of (place_with seat.place (length k.ops) acts.ended) s.task ≡ Some j → slice_get (k.ops ++ made_by k c now d seat s acts ∷ []) j.place ≡ Some r
-        → JobCame (early_of book.opening) k.steps (taken_of past) (taken_of past) k.sessions (commanded_sessions k.sessions seat.session (session_of k.sessions seat.session) seat.place (length k.ops) (word_of d) acts) k.seats k.ops (k.ops ++ made_by k c now d seat s acts ∷ []) c (record seat { client = s; place = place_with seat.place (length k.ops) acts.ended }) j r)
-        → HaveVersions book.moments (early_of book.opening) (taken_of past) (commanded_sessions k.sessions seat.session (session_of k.sessions seat.session) seat.place (length k.ops) (word_of d) acts) (with_numbered k.seats c (record seat { client = s; place = place_with seat.place (length k.ops) acts.ended })) (k.ops ++ made_by k c now d seat s acts ∷ [])
-    grown s acts now_open mine = versions_onward book.moments (early_of book.opening) k.steps (taken_of past) (taken_of past) k.sessions (later acts) k.seats (with_numbered k.seats c (record seat { client = s; place = place_with seat.place (length k.ops) acts.ended })) k.ops (k.ops ++ new s acts ∷ []) counted.taken_by (λ f q le. ap (λ z. z + 1) (count_appended f q k.ops (new s acts) (made_unchanging k c now d seat s acts f q))) (λ p q o at is. ap (λ z. z + 1) (count_appended o.file q k.ops (new s acts) (made_unchanging k c now d seat s acts o.file q)))
+        → JobCame (early_of book.opening book.raws) k.steps (taken_of past) (taken_of past) k.sessions (commanded_sessions k.sessions seat.session (session_of k.sessions seat.session) seat.place (length k.ops) (word_of d) acts) k.seats k.ops (k.ops ++ made_by k c now d seat s acts ∷ []) c (record seat { client = s; place = place_with seat.place (length k.ops) acts.ended }) j r)
+        → HaveVersions book.moments (early_of book.opening book.raws) (taken_of past) (commanded_sessions k.sessions seat.session (session_of k.sessions seat.session) seat.place (length k.ops) (word_of d) acts) (with_numbered k.seats c (record seat { client = s; place = place_with seat.place (length k.ops) acts.ended })) (k.ops ++ made_by k c now d seat s acts ∷ [])
+    grown s acts now_open mine = versions_onward book.moments (early_of book.opening book.raws) k.steps (taken_of past) (taken_of past) k.sessions (later acts) k.seats (with_numbered k.seats c (record seat { client = s; place = place_with seat.place (length k.ops) acts.ended })) k.ops (k.ops ++ new s acts ∷ []) counted.taken_by (λ f q le. ap (λ z. z + 1) (count_appended f q k.ops (new s acts) (made_unchanging k c now d seat s acts f q))) (λ p q o at is. ap (λ z. z + 1) (count_appended o.file q k.ops (new s acts) (made_unchanging k c now d seat s acts o.file q)))
         (λ i z j r there is at. elim (of_numbered k.seats c (record seat { client = s; place = place_with seat.place (length k.ops) acts.ended }) i z there) [
           | inr other ↦ inl (z, r, other.1, is, old_op s acts i z j r other.1 is at, alike_same (taken_of past) r, kept_taken acts i z other.1 (λ e. absurd (other.0 e)))
-          | inl own ↦ subst (λ n. JobCame (early_of book.opening) k.steps (taken_of past) (taken_of past) k.sessions (later acts) k.seats k.ops (k.ops ++ new s acts ∷ []) n z j r) (sym own.0) (subst (λ y. JobCame (early_of book.opening) k.steps (taken_of past) (taken_of past) k.sessions (later acts) k.seats k.ops (k.ops ++ new s acts ∷ []) c y j r) (sym own.1) (mine j r (ap job (sym own.1) ∙ is) at))
+          | inl own ↦ subst (λ n. JobCame (early_of book.opening book.raws) k.steps (taken_of past) (taken_of past) k.sessions (later acts) k.seats k.ops (k.ops ++ new s acts ∷ []) n z j r) (sym own.0) (subst (λ y. JobCame (early_of book.opening book.raws) k.steps (taken_of past) (taken_of past) k.sessions (later acts) k.seats k.ops (k.ops ++ new s acts ∷ []) c y j r) (sym own.1) (mine j r (ap job (sym own.1) ∙ is) at))
         ])
         (λ p len q digest r at e point. elim (of_appended k.ops (new s acts) p r at) [
           | inr old ↦ inl (old, alike_same (taken_of past) r)
-          | inl last ↦ inr (inr (subst (λ (z : Op). IsNow book.moments z q (version_by (early_of book.opening) (k.ops ++ new s acts ∷ []) z.file q)) (sym last.1) (now_open q len digest (ap (λ (z : Op). z.outcome) (sym last.1) ∙ e) (ap (λ (z : Op). z.point) (sym last.1) ∙ point))))
+          | inl last ↦ inr (inr (subst (λ (z : Op). IsNow book.moments z q (version_by (early_of book.opening book.raws) (k.ops ++ new s acts ∷ []) z.file q)) (sym last.1) (now_open q len digest (ap (λ (z : Op). z.outcome) (sym last.1) ∙ e) (ap (λ (z : Op). z.point) (sym last.1) ∙ point))))
         ]) h
 
 -- ---- an answer
@@ -538,7 +539,7 @@ alike_none said more o none = record {
 }
 
 -- what an attempt has when one more answer of it came
-attempt_more : (base : ℕ → ℕ) → (said : List Said) (ops : List Op) (taken : List TakenCall) (o : Op) (s : Said) (v x : ℕ) → (TellsVersion s.message → Carries v s.message) → Attempt base said ops taken o v x → Attempt base (said ++ s ∷ []) ops taken o v x
+attempt_more : (base : ℕ → ℕ → ℕ) → (said : List Said) (ops : List Op) (taken : List TakenCall) (o : Op) (s : Said) (v x : ℕ) → (TellsVersion s.message → Carries v s.message) → Attempt base said ops taken o v x → Attempt base (said ++ s ∷ []) ops taken o v x
 attempt_more base said ops taken o s v x carries (q, was, version, (z, there, of, lt, c), since) = (
   q,
   was,
@@ -552,7 +553,7 @@ attempt_more base said ops taken o s v x carries (q, was, version, (z, there, of
 
 -- what it has by the answer to its first call
 attempt_first : (book : Book) (k : Core) (said : List Said) (i : ℕ) (taken : List TakenCall) (t : Told) (j : Job) (o : Op) → book.ops ≡ k.ops → book.steps ≡ k.steps → o.file ≡ j.file → o.client ≡ i → o.end ≡ None → o.begin ≤ k.steps → (y version : ℕ) (v : List ℕ) → (y == t.xid) ≡ true → IsTold book taken j t.xid (Some v) version → Carries version (told_message t)
-    → Untold said taken o y → Attempt (early_of book.opening) (said ++ record { step = k.steps + 1; client = i; message = told_message t } ∷ []) k.ops taken o version t.xid
+    → Untold said taken o y → Attempt (early_of book.opening book.raws) (said ++ record { step = k.steps + 1; client = i; message = told_message t } ∷ []) k.ops taken o version t.xid
 attempt_first book k said i taken t j o ops steps file mine none begun y version v own told carries old =
     let q = told.moment in
     let s : Said = record { step = k.steps + 1; client = i; message = told_message t } in
@@ -560,7 +561,7 @@ attempt_first book k said i taken t j o ops steps file mine none begun y version
     let same_xid : y ≡ t.xid = grind (arith, nat_tests, own) in (
       q,
       told.was,
-      ap (λ l. version_by (early_of book.opening) l o.file q) (sym ops) ∙ ap (λ z. version_by (early_of book.opening) book.ops z q) file ∙ told.version_is,
+      ap (λ l. version_by (early_of book.opening book.raws) l o.file q) (sym ops) ∙ ap (λ z. version_by (early_of book.opening book.raws) book.ops z q) file ∙ sym (version_split book j.file q) ∙ told.version_is,
       (s, Contains-append_right said (s ∷ []) s (Contains-push [] s), open_now o k.steps i mine none begun, omega (arith, past, steps), carries),
       λ w here of late tells. elim (one_more said s w here) [
         | inl was ↦ absurd (old q (ap (taken_at taken) same_xid ∙ told.was) w was of late tells)
@@ -569,7 +570,7 @@ attempt_first book k said i taken t j o ops steps file mine none begun y version
     )
 
 took_in : (book : Book) (k : Core) (said : List Said) (i : ℕ) (taken : List TakenCall) (closing : Option ℕ) (t : Told) (j : Job) (o : Op) → book.ops ≡ k.ops → book.steps ≡ k.steps → (is_naming j.stage ≡ false → o.file ≡ j.file) → o.client ≡ i → o.end ≡ None → o.begin ≤ k.steps → has_call (client.pending_in j.stage) t.xid ≡ true → AnswerOf book taken closing (Some j) t.xid t.reply
-    → (st : Stage) → j.stage ≡ st → (r : Reply) → t.reply ≡ r → JobVersion (early_of book.opening) said k.ops taken o st → TookIn (Attempt (early_of book.opening) (said ++ record { step = k.steps + 1; client = i; message = told_message t } ∷ []) k.ops taken o) st t.xid (reply_body r)
+    → (st : Stage) → j.stage ≡ st → (r : Reply) → t.reply ≡ r → JobVersion (early_of book.opening book.raws) said k.ops taken o st → TookIn (Attempt (early_of book.opening book.raws) (said ++ record { step = k.steps + 1; client = i; message = told_message t } ∷ []) k.ops taken o) st t.xid (reply_body r)
 took_in book k said i taken closing t j o ops steps file mine none begun has answer (stage.Asking y) at (Versioned (Done l)) is old =
     let own : (y == t.xid) ≡ true = or_none (y == t.xid) (ap (λ z. has_call (client.pending_in z) t.xid) (sym at) ∙ has) in
     let h : IsLeased book taken j t.xid l = subst (AnswerOf book taken closing (Some j) t.xid) is answer j refl (ap lease_xid at ∙ ap (λ z. Some z) (eqb-true y t.xid own)) in
@@ -580,34 +581,34 @@ took_in book k said i taken closing t j o ops steps file mine none begun has ans
     let h : IsHashed book taken j t.xid 0 g = told.0 in
     attempt_first book k said i taken t j o ops steps (file (ap is_naming at)) mine none begun y g.version h.value own (subst (IsTold book taken j t.xid (Some h.value)) (sym (ap (λ (z : Hashes). z.version) h.is)) h.told) (subst (λ m. Carries g.version m) (sym (same_reply t (Hashed (Done g)) is)) refl) old
 took_in book k said i taken closing t j o ops steps file mine none begun has answer (stage.Listing y f) at (Hashed (Done g)) is old = λ same.
-    attempt_more (early_of book.opening) said k.ops taken o (record { step = k.steps + 1; client = i; message = told_message t }) f.version f.first (λ hashes. subst (λ m. Carries f.version m) (sym (same_reply t (Hashed (Done g)) is)) (eqb-true g.version f.version same)) old
+    attempt_more (early_of book.opening book.raws) said k.ops taken o (record { step = k.steps + 1; client = i; message = told_message t }) f.version f.first (λ hashes. subst (λ m. Carries f.version m) (sym (same_reply t (Hashed (Done g)) is)) (eqb-true g.version f.version same)) old
 took_in book k said i taken closing t j o ops steps file mine none begun has answer (stage.Reading f) at (Bytes (Done p)) is old =
-    attempt_more (early_of book.opening) said k.ops taken o (record { step = k.steps + 1; client = i; message = told_message t }) f.version f.first (λ hashes. absurd (subst (λ m. TellsVersion m) (same_reply t (Bytes (Done p)) is) hashes)) old
+    attempt_more (early_of book.opening book.raws) said k.ops taken o (record { step = k.steps + 1; client = i; message = told_message t }) f.version f.first (λ hashes. absurd (subst (λ m. TellsVersion m) (same_reply t (Bytes (Done p)) is) hashes)) old
 took_in book k said i taken closing t j o ops steps file mine none begun has answer (stage.Reading f) at (Walked (LookedUp a)) is old = tt
 took_in book k said i taken closing t j o ops steps file mine none begun has answer _ at _ is old = tt
 
 -- what gave an open its content: what came, or what was there
-abbrev GaveBy : (all : List Moment) → (base : ℕ → ℕ) → List Said → List Op → Op → (q : ℕ) → Type 0
+abbrev GaveBy : (all : List Moment) → (base : ℕ → ℕ → ℕ) → List Said → List Op → Op → (q : ℕ) → Type 0
 GaveBy all base said ops o q = (CameTo said o q (version_by base ops o.file q) × Since said o q (version_by base ops o.file q)) ⊎ IsNow all o q (version_by base ops o.file q)
 
-versions_hears : FitLaws → (book more : Book) (past : List Moment) (k : Core) (qs after : List Queue) (n now : ℕ) (bytes : List ℕ) (mid : List Queue) → IsKept book k qs → Contains book.moments (moment k (Hears n now bytes)) → (h : Heard k qs n now bytes mid) → (let r = got_step h.seat.client (Ok (told_message h.told)) now in let t = acted k h.session.owner h.seat r.0 r.1 in IsKept more t.core after → CountedAt past k → VersionsAt book.moments (early_of book.opening) past k → VersionsBy book.moments (early_of book.opening) past k (Hears n now bytes) t)
+versions_hears : FitLaws → (book more : Book) (past : List Moment) (k : Core) (qs after : List Queue) (n now : ℕ) (bytes : List ℕ) (mid : List Queue) → IsKept book k qs → Contains book.moments (moment k (Hears n now bytes)) → (h : Heard k qs n now bytes mid) → (let r = got_step h.seat.client (Ok (told_message h.told)) now in let t = acted k h.session.owner h.seat r.0 r.1 in IsKept more t.core after → CountedAt past k → VersionsAt book.moments (early_of book.opening book.raws) past k → VersionsBy book.moments (early_of book.opening book.raws) past k (Hears n now bytes) t)
 versions_hears laws book more past k qs after n now bytes mid kept noted h left counted before =
-    subst (λ i. HaveVersions book.moments (early_of book.opening) (taken_of past ++ all_said (k.steps + 1) i (taken_by k i (Hears n now bytes))) k.sessions (with_numbered k.seats h.session.owner new) (ops_with k.ops h.seat.place r.0 taken (k.steps + 1) r.1)) (sym owner)
-    (subst (λ l. HaveVersions book.moments (early_of book.opening) (taken_of past ++ all_said (k.steps + 1) h.session.owner l) k.sessions (with_numbered k.seats h.session.owner new) (ops_with k.ops h.seat.place r.0 taken (k.steps + 1) r.1)) (sym (heard_takes laws book k qs n now bytes mid kept h))
-    (versions_onward book.moments (early_of book.opening) k.steps (taken_of past) said k.sessions k.sessions k.seats (with_numbered k.seats h.session.owner new) k.ops (ops_with k.ops h.seat.place r.0 taken (k.steps + 1) r.1) counted.taken_by (λ f q le. versions_after k.ops h.seat.place r.0 taken (k.steps + 1) r.1 finds f q) (λ p q o at is. versions_after k.ops h.seat.place r.0 taken (k.steps + 1) r.1 finds o.file q)
+    subst (λ i. HaveVersions book.moments (early_of book.opening book.raws) (taken_of past ++ all_said (k.steps + 1) i (taken_by k i (Hears n now bytes))) k.sessions (with_numbered k.seats h.session.owner new) (ops_with k.ops h.seat.place r.0 taken (k.steps + 1) r.1)) (sym owner)
+    (subst (λ l. HaveVersions book.moments (early_of book.opening book.raws) (taken_of past ++ all_said (k.steps + 1) h.session.owner l) k.sessions (with_numbered k.seats h.session.owner new) (ops_with k.ops h.seat.place r.0 taken (k.steps + 1) r.1)) (sym (heard_takes laws book k qs n now bytes mid kept h))
+    (versions_onward book.moments (early_of book.opening book.raws) k.steps (taken_of past) said k.sessions k.sessions k.seats (with_numbered k.seats h.session.owner new) k.ops (ops_with k.ops h.seat.place r.0 taken (k.steps + 1) r.1) counted.taken_by (λ f q le. versions_after k.ops h.seat.place r.0 taken (k.steps + 1) r.1 finds f q) (λ p q o at is. versions_after k.ops h.seat.place r.0 taken (k.steps + 1) r.1 finds o.file q)
     (λ i z j o there is at. elim (of_numbered k.seats h.session.owner new i z there) [
       | inr other ↦ elim (ops_shape k.ops h.seat.place r.0 taken (k.steps + 1) r.1 j.place o at) [
         | inl mine ↦ absurd (foreign_at book k qs h.session.owner h.seat kept h.owner i z j mine.0 other.1 is mine.2 other.0 mine.1)
         | inr old ↦ inl (z, o, other.1, is, old.1, alike_other (taken_of past) (k.steps + 1) h.session.owner (wanted_by h.seat.client (Ok (told_message h.told))) o (actor.other j.place o old.1 old.0), extends_same k.steps (takens k.sessions z))
       ]
       | inl own ↦ (let w = job_after r.0 h.seat.place r.1.ended j (ap job (sym own.1) ∙ is) in elim (ops_shape k.ops h.seat.place r.0 taken (k.steps + 1) r.1 j.place o at) [
-        | inl mine ↦ inr (subst (λ (y : Seat). JobVersion (early_of book.opening) said (ops_with k.ops h.seat.place r.0 taken (k.steps + 1) r.1) (takens k.sessions y) o j.stage) (sym own.1) (subst (λ (y : Op). JobVersion (early_of book.opening) said (ops_with k.ops h.seat.place r.0 taken (k.steps + 1) r.1) taken y j.stage) (sym mine.3) (own_job j.place mine.0 mine.1 mine.2 j w.2)))
+        | inl mine ↦ inr (subst (λ (y : Seat). JobVersion (early_of book.opening book.raws) said (ops_with k.ops h.seat.place r.0 taken (k.steps + 1) r.1) (takens k.sessions y) o j.stage) (sym own.1) (subst (λ (y : Op). JobVersion (early_of book.opening book.raws) said (ops_with k.ops h.seat.place r.0 taken (k.steps + 1) r.1) taken y j.stage) (sym mine.3) (own_job j.place mine.0 mine.1 mine.2 j w.2)))
         | inr old ↦ absurd (old.0 w.0)
       ])
     ])
     (λ p len q digest o at e point. elim (ops_shape k.ops h.seat.place r.0 taken (k.steps + 1) r.1 p o at) [
       | inr old ↦ inl (old.1, alike_other (taken_of past) (k.steps + 1) h.session.owner (wanted_by h.seat.client (Ok (told_message h.told))) o (actor.other p o old.1 old.0))
-      | inl mine ↦ inr (subst (λ (y : Op). GaveBy book.moments (early_of book.opening) said (ops_with k.ops h.seat.place r.0 taken (k.steps + 1) r.1) y q) (sym mine.3) (ended p mine.0 mine.1 mine.2 len q digest (ap (λ (y : Op). y.outcome) (sym mine.3) ∙ e) (ap (λ (y : Op). y.point) (sym mine.3) ∙ point)))
+      | inl mine ↦ inr (subst (λ (y : Op). GaveBy book.moments (early_of book.opening book.raws) said (ops_with k.ops h.seat.place r.0 taken (k.steps + 1) r.1) y q) (sym mine.3) (ended p mine.0 mine.1 mine.2 len q digest (ap (λ (y : Op). y.outcome) (sym mine.3) ∙ e) (ap (λ (y : Op). y.point) (sym mine.3) ∙ point)))
     ]) before))
   where
     r : client.State × ClientStep
@@ -632,7 +633,7 @@ versions_hears laws book more past k qs after n now bytes mid kept noted h left 
     actor = acts_alone book k qs h.session.owner h.seat kept h.owner
 
     s : IsSession book k.seats k.server n h.session h.queue
-    s = kept.sessions n h.session h.queue h.at h.queue_is
+    s = kept.sessions n h.session h.queue h.at h.queue_is (has_owner k.seats h.session h.seat h.owner)
 
     same_seat : s.seat ≡ h.seat
     same_seat = some_is s.seat h.seat (sym s.owner ∙ h.owner)
@@ -644,7 +645,7 @@ versions_hears laws book more past k qs after n now bytes mid kept noted h left 
     said_past = said_append (k.steps + 1) (taken_of past) (all_said (k.steps + 1) h.session.owner (wanted_by h.seat.client (Ok (told_message h.told)))) (said_later k.steps (k.steps + 1) (taken_of past) (omega arith) counted.taken_by) (said_now (k.steps + 1) h.session.owner (wanted_by h.seat.client (Ok (told_message h.told))))
 
     -- the operation as it was, after the answer
-    good : (p : ℕ) (o : Op) → h.seat.place ≡ Some p → slice_get k.ops p ≡ Some o → Good (Attempt (early_of book.opening) said k.ops taken o) (Untold said taken o) r × Well (Attempt (early_of book.opening) said k.ops taken o) r
+    good : (p : ℕ) (o : Op) → h.seat.place ≡ Some p → slice_get k.ops p ≡ Some o → Good (Attempt (early_of book.opening book.raws) said k.ops taken o) (Untold said taken o) r × Well (Attempt (early_of book.opening book.raws) said k.ops taken o) r
     good p o e at =
         let w = own_op book k qs h.session.owner h.seat p o kept h.owner e at in
         let j : Job = w.0 in
@@ -656,53 +657,53 @@ versions_hears laws book more past k qs after n now bytes mid kept noted h left 
         let old = before.jobs h.session.owner h.seat j o h.owner w.1 (ap (slice_get k.ops) w.2 ∙ at) in
         let floor = rising_to talk.floor h.queue.ups s.seat.client.next_xid talk.rising in
         let fresh : Untold said taken o h.seat.client.next_xid = λ q was. absurd (not_taken talk.floor h.session.taken h.seat.client.next_xid q talk.under (subst (λ (z : Seat). talk.floor ≤ z.client.next_xid) same_seat floor) (ap (λ l. taken_at l h.seat.client.next_xid) taken_is ∙ was)) in
-        let came : has_call (pending h.seat.client.task) h.told.xid ≡ true → TaskTook (Attempt (early_of book.opening) said k.ops taken o) h.seat.client.task h.told.xid (reply_body h.told.reply) =
-        λ has. subst (λ (l : List Message). TaskTook (Attempt (early_of book.opening) (taken_of past ++ all_said (k.steps + 1) h.session.owner l) k.ops taken o) h.seat.client.task h.told.xid (reply_body h.told.reply)) (sym (ap (λ b. wanted_if b (told_message h.told)) has))
-        (subst (λ z. TaskTook (Attempt (early_of book.opening) (taken_of past ++ record { step = k.steps + 1; client = h.session.owner; message = told_message h.told } ∷ []) k.ops taken o) z h.told.xid (reply_body h.told.reply)) (sym task)
+        let came : has_call (pending h.seat.client.task) h.told.xid ≡ true → TaskTook (Attempt (early_of book.opening book.raws) said k.ops taken o) h.seat.client.task h.told.xid (reply_body h.told.reply) =
+        λ has. subst (λ (l : List Message). TaskTook (Attempt (early_of book.opening book.raws) (taken_of past ++ all_said (k.steps + 1) h.session.owner l) k.ops taken o) h.seat.client.task h.told.xid (reply_body h.told.reply)) (sym (ap (λ b. wanted_if b (told_message h.told)) has))
+        (subst (λ z. TaskTook (Attempt (early_of book.opening book.raws) (taken_of past ++ record { step = k.steps + 1; client = h.session.owner; message = told_message h.told } ∷ []) k.ops taken o) z h.told.xid (reply_body h.told.reply)) (sym task)
         (took_in book k (taken_of past) h.session.owner taken h.session.closing h.told j o kept.ops kept.steps w.5 w.3 own.1 own.2 (ap (λ z. has_call (pending z) h.told.xid) (sym task) ∙ has) answer j.stage refl h.told.reply refl old)) in (
-          good_answer (Attempt (early_of book.opening) said k.ops taken o) (Untold said taken o) (at_clock h.seat.client now) fresh h.told.xid (reply_body h.told.reply)
-              (λ free. subst (TaskGood (Attempt (early_of book.opening) said k.ops taken o) (Untold said taken o)) (sym task) (job_alike (early_of book.opening) k.steps (taken_of past) said k.ops k.ops taken taken o o j.stage counted.taken_by (alike_none (taken_of past) (all_said (k.steps + 1) h.session.owner (wanted_by h.seat.client (Ok (told_message h.told)))) o (ap (λ b. all_said (k.steps + 1) h.session.owner (wanted_if b (told_message h.told))) free)) (extends_same k.steps taken) (λ f q le. refl) old))
+          good_answer (Attempt (early_of book.opening book.raws) said k.ops taken o) (Untold said taken o) (at_clock h.seat.client now) fresh h.told.xid (reply_body h.told.reply)
+              (λ free. subst (TaskGood (Attempt (early_of book.opening book.raws) said k.ops taken o) (Untold said taken o)) (sym task) (job_alike (early_of book.opening book.raws) k.steps (taken_of past) said k.ops k.ops taken taken o o j.stage counted.taken_by (alike_none (taken_of past) (all_said (k.steps + 1) h.session.owner (wanted_by h.seat.client (Ok (told_message h.told)))) o (ap (λ b. all_said (k.steps + 1) h.session.owner (wanted_if b (told_message h.told))) free)) (extends_same k.steps taken) (λ f q le. refl) old))
               came,
-          well_answer (Attempt (early_of book.opening) said k.ops taken o) (at_clock h.seat.client now) h.told.xid (reply_body h.told.reply) came,
+          well_answer (Attempt (early_of book.opening book.raws) said k.ops taken o) (at_clock h.seat.client now) h.told.xid (reply_body h.told.reply) came,
         )
 
     -- and in its new form
     alike : (p : ℕ) (o : Op) → h.seat.place ≡ Some p → slice_get k.ops p ≡ Some o → r.1.found ≡ None → Alike said said o (op_after o r.0 taken (k.steps + 1) r.1)
     alike p o e at none = alike_after (k.steps + 1) said o (op_after o r.0 taken (k.steps + 1) r.1) said_past (file_after o r.0 taken (k.steps + 1) r.1 none) (running_upto o r.0 taken k.steps r.1 (actor.own p o e at).1)
 
-    own_job : (p : ℕ) (o : Op) → h.seat.place ≡ Some p → slice_get k.ops p ≡ Some o → (j : Job) → r.0.task ≡ Some (record { file = j.file; stage = j.stage }) → JobVersion (early_of book.opening) said (ops_with k.ops h.seat.place r.0 taken (k.steps + 1) r.1) taken (op_after o r.0 taken (k.steps + 1) r.1) j.stage
+    own_job : (p : ℕ) (o : Op) → h.seat.place ≡ Some p → slice_get k.ops p ≡ Some o → (j : Job) → r.0.task ≡ Some (record { file = j.file; stage = j.stage }) → JobVersion (early_of book.opening book.raws) said (ops_with k.ops h.seat.place r.0 taken (k.steps + 1) r.1) taken (op_after o r.0 taken (k.steps + 1) r.1) j.stage
     own_job p o e at j task = by r.1.found refl
       where
-        old : StageGood (Attempt (early_of book.opening) said k.ops taken o) (Untold said taken o) j.stage
-        old = subst (TaskGood (Attempt (early_of book.opening) said k.ops taken o) (Untold said taken o)) task (good p o e at).0.0
+        old : StageGood (Attempt (early_of book.opening book.raws) said k.ops taken o) (Untold said taken o) j.stage
+        old = subst (TaskGood (Attempt (early_of book.opening book.raws) said k.ops taken o) (Untold said taken o)) task (good p o e at).0.0
 
         -- nothing that tells a version was said to it since
         untold : (x : ℕ) → Untold said taken o x → Untold said taken (op_after o r.0 taken (k.steps + 1) r.1) x
         untold x h2 q was z there of lt is = h2 q was z there (sym (running_upto o r.0 taken k.steps r.1 (actor.own p o e at).1 z.step z.client (said_by (k.steps + 1) said z said_past there)) ∙ of) lt is
 
-        begun : (st : Stage) → IsFresh st → StageGood (Attempt (early_of book.opening) said k.ops taken o) (Untold said taken o) st → JobVersion (early_of book.opening) said (ops_with k.ops h.seat.place r.0 taken (k.steps + 1) r.1) taken (op_after o r.0 taken (k.steps + 1) r.1) st
+        begun : (st : Stage) → IsFresh st → StageGood (Attempt (early_of book.opening book.raws) said k.ops taken o) (Untold said taken o) st → JobVersion (early_of book.opening book.raws) said (ops_with k.ops h.seat.place r.0 taken (k.steps + 1) r.1) taken (op_after o r.0 taken (k.steps + 1) r.1) st
         begun (stage.Asking x) fresh h2 = untold x h2
         begun (stage.Hashing tries x) fresh h2 = untold x h2
         begun (stage.Rewriting x) fresh h2 = tt
         begun st fresh h2 = absurd fresh
 
-        by : (found : Option ℕ) → r.1.found ≡ found → JobVersion (early_of book.opening) said (ops_with k.ops h.seat.place r.0 taken (k.steps + 1) r.1) taken (op_after o r.0 taken (k.steps + 1) r.1) j.stage
+        by : (found : Option ℕ) → r.1.found ≡ found → JobVersion (early_of book.opening book.raws) said (ops_with k.ops h.seat.place r.0 taken (k.steps + 1) r.1) taken (op_after o r.0 taken (k.steps + 1) r.1) j.stage
         by (Some id) is = begun j.stage ((step_found h.seat.client (Ok (told_message h.told)) now id is).begins (record { file = j.file; stage = j.stage }) task) old
-        by None none = job_alike (early_of book.opening) (k.steps + 1) said said k.ops (ops_with k.ops h.seat.place r.0 taken (k.steps + 1) r.1) taken taken o (op_after o r.0 taken (k.steps + 1) r.1) j.stage said_past (alike p o e at none) (extends_same (k.steps + 1) taken) (λ f q le. versions_after k.ops h.seat.place r.0 taken (k.steps + 1) r.1 finds f q) old
+        by None none = job_alike (early_of book.opening book.raws) (k.steps + 1) said said k.ops (ops_with k.ops h.seat.place r.0 taken (k.steps + 1) r.1) taken taken o (op_after o r.0 taken (k.steps + 1) r.1) j.stage said_past (alike p o e at none) (extends_same (k.steps + 1) taken) (λ f q le. versions_after k.ops h.seat.place r.0 taken (k.steps + 1) r.1 finds f q) old
 
     -- one that got its content by what came
-    by_came : (p : ℕ) (o : Op) → h.seat.place ≡ Some p → slice_get k.ops p ≡ Some o → (len q : ℕ) (digest : List ℕ) → o.word ≡ words.Open → r.1.found ≡ None → (op_after o r.0 taken (k.steps + 1) r.1).outcome ≡ told.Opened len digest → (op_after o r.0 taken (k.steps + 1) r.1).point ≡ Some q → GaveBy book.moments (early_of book.opening) said (ops_with k.ops h.seat.place r.0 taken (k.steps + 1) r.1) (op_after o r.0 taken (k.steps + 1) r.1) q
+    by_came : (p : ℕ) (o : Op) → h.seat.place ≡ Some p → slice_get k.ops p ≡ Some o → (len q : ℕ) (digest : List ℕ) → o.word ≡ words.Open → r.1.found ≡ None → (op_after o r.0 taken (k.steps + 1) r.1).outcome ≡ told.Opened len digest → (op_after o r.0 taken (k.steps + 1) r.1).point ≡ Some q → GaveBy book.moments (early_of book.opening book.raws) said (ops_with k.ops h.seat.place r.0 taken (k.steps + 1) r.1) (op_after o r.0 taken (k.steps + 1) r.1) q
     by_came p o e at len q digest word none opened point =
         let running = (own_op book k qs h.session.owner h.seat p o kept h.owner e at).4 in
         let a = by running r.1.ended ((good p o e at).1 none) opened point in
         let same = alike p o e at none in
-        let version = ap (λ f. version_by (early_of book.opening) (ops_with k.ops h.seat.place r.0 taken (k.steps + 1) r.1) f q) same.file ∙ by_counts (early_of book.opening) (ops_with k.ops h.seat.place r.0 taken (k.steps + 1) r.1) k.ops o.file q (versions_after k.ops h.seat.place r.0 taken (k.steps + 1) r.1 finds o.file q) ∙ a.1 in
+        let version = ap (λ f. version_by (early_of book.opening book.raws) (ops_with k.ops h.seat.place r.0 taken (k.steps + 1) r.1) f q) same.file ∙ by_counts (early_of book.opening book.raws) (ops_with k.ops h.seat.place r.0 taken (k.steps + 1) r.1) k.ops o.file q (versions_after k.ops h.seat.place r.0 taken (k.steps + 1) r.1 finds o.file q) ∙ a.1 in
         inl (subst (λ v. CameTo said (op_after o r.0 taken (k.steps + 1) r.1) q v × Since said (op_after o r.0 taken (k.steps + 1) r.1) q v) (sym version) (came_alike said said o (op_after o r.0 taken (k.steps + 1) r.1) q a.0 same a.2, since_alike said said o (op_after o r.0 taken (k.steps + 1) r.1) q a.0 same a.3))
       where
-        ends : (x : ℕ) (u : Outcome) (file : ℕ) → u ≡ outcome.Opened file len digest → OutcomeWell (Attempt (early_of book.opening) said k.ops taken o) u x → (v : ℕ) × Attempt (early_of book.opening) said k.ops taken o v x
-        ends x u file is g = subst (λ (z : Outcome). OutcomeWell (Attempt (early_of book.opening) said k.ops taken o) z x) is g
+        ends : (x : ℕ) (u : Outcome) (file : ℕ) → u ≡ outcome.Opened file len digest → OutcomeWell (Attempt (early_of book.opening book.raws) said k.ops taken o) u x → (v : ℕ) × Attempt (early_of book.opening book.raws) said k.ops taken o v x
+        ends x u file is g = subst (λ (z : Outcome). OutcomeWell (Attempt (early_of book.opening book.raws) said k.ops taken o) z x) is g
 
-        by : o.outcome ≡ told.Running → (l : Option Ended) → EndWell (Attempt (early_of book.opening) said k.ops taken o) l → (op_after o r.0 taken (k.steps + 1) (record r.1 { ended = l })).outcome ≡ told.Opened len digest → (op_after o r.0 taken (k.steps + 1) (record r.1 { ended = l })).point ≡ Some q → (v : ℕ) × (version_by (early_of book.opening) k.ops o.file q ≡ v) × CameTo said o q v × Since said o q v
+        by : o.outcome ≡ told.Running → (l : Option Ended) → EndWell (Attempt (early_of book.opening book.raws) said k.ops taken o) l → (op_after o r.0 taken (k.steps + 1) (record r.1 { ended = l })).outcome ≡ told.Opened len digest → (op_after o r.0 taken (k.steps + 1) (record r.1 { ended = l })).point ≡ Some q → (v : ℕ) × (version_by (early_of book.opening book.raws) k.ops o.file q ≡ v) × CameTo said o q v × Since said o q v
         by running None g opened point = absurd (running_not (sym running ∙ opened))
           where
             running_not : told.Running ≡ told.Opened len digest → ⊥
@@ -711,10 +712,10 @@ versions_hears laws book more past k qs after n now bytes mid kept noted h left 
             let is = opened_by l.outcome len digest opened in
             let a = ends l.rests_on l.outcome is.0 is.1 g in
             let same : a.1.0 ≡ q = ap (λ (z : Option ℕ). unwrap_or z (k.steps + 1)) (sym a.1.1) ∙ some_is (unwrap_or (taken_at taken l.rests_on) (k.steps + 1)) q (pointed_as o taken (k.steps + 1) l.rests_on l.outcome is.0 len q digest is.1 word point) in
-            (a.0, ap (version_by (early_of book.opening) k.ops o.file) (sym same) ∙ a.1.2, subst (λ z. CameTo said o z a.0) same a.1.3, subst (λ z. Since said o z a.0) same a.1.4)
+            (a.0, ap (version_by (early_of book.opening book.raws) k.ops o.file) (sym same) ∙ a.1.2, subst (λ z. CameTo said o z a.0) same a.1.3, subst (λ z. Since said o z a.0) same a.1.4)
 
     -- one that found its file, of which a content was fresh
-    by_now : (p : ℕ) (o : Op) → h.seat.place ≡ Some p → slice_get k.ops p ≡ Some o → (len q id : ℕ) (digest : List ℕ) → o.word ≡ words.Open → r.1.found ≡ Some id → (op_after o r.0 taken (k.steps + 1) r.1).outcome ≡ told.Opened len digest → (op_after o r.0 taken (k.steps + 1) r.1).point ≡ Some q → GaveBy book.moments (early_of book.opening) said (ops_with k.ops h.seat.place r.0 taken (k.steps + 1) r.1) (op_after o r.0 taken (k.steps + 1) r.1) q
+    by_now : (p : ℕ) (o : Op) → h.seat.place ≡ Some p → slice_get k.ops p ≡ Some o → (len q id : ℕ) (digest : List ℕ) → o.word ≡ words.Open → r.1.found ≡ Some id → (op_after o r.0 taken (k.steps + 1) r.1).outcome ≡ told.Opened len digest → (op_after o r.0 taken (k.steps + 1) r.1).point ≡ Some q → GaveBy book.moments (early_of book.opening book.raws) said (ops_with k.ops h.seat.place r.0 taken (k.steps + 1) r.1) (op_after o r.0 taken (k.steps + 1) r.1) q
     by_now p o e at len q id digest word found opened point =
         let new : Op = op_after o r.0 taken (k.steps + 1) r.1 in
         let w = own_op book k qs h.session.owner h.seat p o kept h.owner e at in
@@ -726,10 +727,10 @@ versions_hears laws book more past k qs after n now bytes mid kept noted h left 
         let point_is : point_if (has_point o.word l.0.outcome) taken l.0.rests_on (k.steps + 1) o.point ≡ Some q = ap (λ (z : Option Ended). (op_after o r.0 taken (k.steps + 1) (record r.1 { ended = z })).point) (sym l.1) ∙ point in
         let q_is : q ≡ k.steps + 1 = sym (ap (λ (z : Option ℕ). unwrap_or z (k.steps + 1)) (sym none) ∙ ap (λ (x : ℕ). unwrap_or (taken_at taken x) (k.steps + 1)) (sym quiet.0) ∙ some_is (unwrap_or (taken_at taken l.0.rests_on) (k.steps + 1)) q (pointed_as o taken (k.steps + 1) l.0.rests_on l.0.outcome is.0 len q digest is.1 word point_is)) in
         let file : new.file ≡ id = found_file o r.0 taken (k.steps + 1) r.1 id found in
-        inr (now_gave book k qs kept (Hears n now bytes) h.session.owner now id h.seat v.0 noted (ap (acts_for (Hears n now bytes)) h.at) h.owner v.1 (ap (λ (t : CoreStep). t.up) (heard_acts laws book k qs n now bytes mid kept h) ∙ quiet.1) new (client_after o r.0 taken (k.steps + 1) r.1 ∙ w.3) file (end_after o r.0 taken (k.steps + 1) r.1 l.0 l.1) q q_is (version_by (early_of book.opening) (ops_with k.ops h.seat.place r.0 taken (k.steps + 1) r.1) new.file q)
-        (sym (ap (version_by (early_of book.opening) (ops_with k.ops h.seat.place r.0 taken (k.steps + 1) r.1) new.file) q_is ∙ ap (λ (f : ℕ). version_by (early_of book.opening) (ops_with k.ops h.seat.place r.0 taken (k.steps + 1) r.1) f (k.steps + 1)) file ∙ by_counts (early_of book.opening) (ops_with k.ops h.seat.place r.0 taken (k.steps + 1) r.1) k.ops id (k.steps + 1) (versions_after k.ops h.seat.place r.0 taken (k.steps + 1) r.1 finds id (k.steps + 1)))))
+        inr (now_gave book k qs kept (Hears n now bytes) h.session.owner now id h.seat v.0 noted (ap (acts_for (Hears n now bytes)) h.at) h.owner v.1 (ap (λ (t : CoreStep). t.up) (heard_acts laws book k qs n now bytes mid kept h) ∙ quiet.1) new (client_after o r.0 taken (k.steps + 1) r.1 ∙ w.3) file (end_after o r.0 taken (k.steps + 1) r.1 l.0 l.1) q q_is (version_by (early_of book.opening book.raws) (ops_with k.ops h.seat.place r.0 taken (k.steps + 1) r.1) new.file q)
+        (sym (ap (version_by (early_of book.opening book.raws) (ops_with k.ops h.seat.place r.0 taken (k.steps + 1) r.1) new.file) q_is ∙ ap (λ (f : ℕ). version_by (early_of book.opening book.raws) (ops_with k.ops h.seat.place r.0 taken (k.steps + 1) r.1) f (k.steps + 1)) file ∙ by_counts (early_of book.opening book.raws) (ops_with k.ops h.seat.place r.0 taken (k.steps + 1) r.1) k.ops id (k.steps + 1) (versions_after k.ops h.seat.place r.0 taken (k.steps + 1) r.1 finds id (k.steps + 1)))))
 
-    ended : (p : ℕ) (o : Op) → h.seat.place ≡ Some p → slice_get k.ops p ≡ Some o → (len q : ℕ) (digest : List ℕ) → (op_after o r.0 taken (k.steps + 1) r.1).outcome ≡ told.Opened len digest → (op_after o r.0 taken (k.steps + 1) r.1).point ≡ Some q → GaveBy book.moments (early_of book.opening) said (ops_with k.ops h.seat.place r.0 taken (k.steps + 1) r.1) (op_after o r.0 taken (k.steps + 1) r.1) q
+    ended : (p : ℕ) (o : Op) → h.seat.place ≡ Some p → slice_get k.ops p ≡ Some o → (len q : ℕ) (digest : List ℕ) → (op_after o r.0 taken (k.steps + 1) r.1).outcome ≡ told.Opened len digest → (op_after o r.0 taken (k.steps + 1) r.1).point ≡ Some q → GaveBy book.moments (early_of book.opening book.raws) said (ops_with k.ops h.seat.place r.0 taken (k.steps + 1) r.1) (op_after o r.0 taken (k.steps + 1) r.1) q
     ended p o e at len q digest opened point =
         let there : slice_get more.ops p ≡ Some (op_after o r.0 taken (k.steps + 1) r.1) =
         ap (λ (l : List Op). slice_get l p) (left.ops ∙ ap (λ l. ops_with k.ops l r.0 taken (k.steps + 1) r.1) e ∙ ap (λ l. ops_after k.ops p l r.0 taken (k.steps + 1) r.1) at) ∙ at_replaced k.ops p (op_after o r.0 taken (k.steps + 1) r.1) o at in
@@ -737,14 +738,14 @@ versions_hears laws book more past k qs after n now bytes mid kept noted h left 
         let word : o.word ≡ words.Open = sym (word_after o r.0 taken (k.steps + 1) r.1) ∙ (subst (Caused more (op_after o r.0 taken (k.steps + 1) r.1)) opened right.cause).0 in
         by word r.1.found refl
       where
-        by : o.word ≡ words.Open → (found : Option ℕ) → r.1.found ≡ found → GaveBy book.moments (early_of book.opening) said (ops_with k.ops h.seat.place r.0 taken (k.steps + 1) r.1) (op_after o r.0 taken (k.steps + 1) r.1) q
+        by : o.word ≡ words.Open → (found : Option ℕ) → r.1.found ≡ found → GaveBy book.moments (early_of book.opening book.raws) said (ops_with k.ops h.seat.place r.0 taken (k.steps + 1) r.1) (op_after o r.0 taken (k.steps + 1) r.1) q
         by word None none = by_came p o e at len q digest word none opened point
         by word (Some id) found = by_now p o e at len q id digest word found opened point
 
 -- ---- any event
 
-versions_event : FitLaws → (all past rest : List Moment) (opening : List Opening) (k : Core) (qs : List Queue) (e : Event) (mid after : List Queue) → Step all past rest opening k qs e mid after → CountedAt past k → VersionsAt all (early_of opening) past k → VersionsBy all (early_of opening) past k e (happens k e)
-versions_event laws all past rest opening k qs e mid after s counted h = event_cases laws all past rest opening k qs e mid after s (VersionsBy all (early_of opening) past k) (record {
+versions_event : FitLaws → (all past rest : List Moment) (opening : List Opening) (k : Core) (qs : List Queue) (e : Event) (mid after : List Queue) → Step all past rest opening k qs e mid after → CountedAt past k → VersionsAt all (early_of opening k.raws) past k → VersionsBy all (early_of opening k.raws) past k e (happens k e)
+versions_event laws all past rest opening k qs e mid after s counted h = event_cases laws all past rest opening k qs e mid after s (VersionsBy all (early_of opening k.raws) past k) (record {
   still = λ t still. versions_still (book_at opening k all) past k qs e t s.kept still counted h;
   begins = λ c now d seat w here small left. versions_does (book_at opening k all) (book_at opening (does k c now d (Some seat)).core all) past k qs after c now d seat s.kept w.noted.there small here left counted h;
   hears = λ n now bytes st w left. (let r = got_step w.seat.client (Ok (told_message w.told)) now in versions_hears laws (book_at opening k all) (book_at opening (acted k w.session.owner w.seat r.0 r.1).core all) past k qs after n now bytes mid s.kept st.noted.there w left counted h);
@@ -752,16 +753,20 @@ versions_event laws all past rest opening k qs e mid after s counted h = event_c
 })
 
 abbrev pub Versions : (all past : List Moment) → List Opening → Core → List Queue → Type 0
-Versions all past opening k qs = CountedAt past k × VersionsAt all (early_of opening) past k
+Versions all past opening k qs = CountedAt past k × VersionsAt all (early_of opening k.raws) past k
 
 pub carried_versions : FitLaws → Carried Versions
 carried_versions laws = record {
   first = λ all opening tree count kept. ((carried_counts laws).first all opening tree count kept, record { jobs = λ i seat j o here is at. nothing_there o at; opened = λ p len q digest o at e point. nothing_there o at });
-  steps = λ all past rest opening k qs e mid after s h. ((carried_counts laws).steps all past rest opening k qs e mid after s h.0, subst (λ z. HaveVersions all (early_of opening) z (happens k e).core.sessions (happens k e).core.seats (happens k e).core.ops) (taken_more past (moment k e)) (versions_event laws all past rest opening k qs e mid after s h.0 h.1));
+  steps = λ all past rest opening k qs e mid after s h. (
+    (carried_counts laws).steps all past rest opening k qs e mid after s h.0,
+    versions_later all opening k e (taken_of (past ++ moment k e ∷ [])) ((carried_counts laws).steps all past rest opening k qs e mid after s h.0).taken_by (points_of (book_at opening (happens k e).core all) (happens k e).core after s.left)
+        (subst (λ z. HaveVersions all (early_of opening k.raws) z (happens k e).core.sessions (happens k e).core.seats (happens k e).core.ops) (taken_more past (moment k e)) (versions_event laws all past rest opening k qs e mid after s h.0 h.1)),
+  );
   adjusts = λ all past opening k qs index seats same h. (
     (carried_counts laws).adjusts all past opening k qs index seats same h.0,
     record {
-      jobs = λ i seat j o here is at. let w = same.was i seat here in subst (λ (z : Seat). JobVersion (early_of opening) (taken_of past) k.ops (takens k.sessions z) o j.stage) (sym w.4) (h.1.jobs i w.0 j o w.3 (ap job (sym w.4) ∙ is) at);
+      jobs = λ i seat j o here is at. let w = same.was i seat here in subst (λ (z : Seat). JobVersion (early_of opening k.raws) (taken_of past) k.ops (takens k.sessions z) o j.stage) (sym w.4) (h.1.jobs i w.0 j o w.3 (ap job (sym w.4) ∙ is) at);
       opened = h.1.opened;
     },
   );
@@ -769,13 +774,13 @@ carried_versions laws = record {
 
 -- ---- what it makes of the promise
 
-pub opens_version : (book : Book) (k : Core) (qs : List Queue) → IsKept book k qs → AreLeased book.moments → VersionsAt book.moments (early_of book.opening) book.moments k → (p : ℕ) (o : Op) → slice_get book.ops p ≡ Some o → OpensVersion book o o.outcome
+pub opens_version : (book : Book) (k : Core) (qs : List Queue) → IsKept book k qs → AreLeased book.moments → VersionsAt book.moments (early_of book.opening book.raws) book.moments k → (p : ℕ) (o : Op) → slice_get book.ops p ≡ Some o → OpensVersion book o o.outcome
 opens_version book k qs kept leased h p o at = by o.outcome refl (kept.sound.rights p o at).cause
   where
     by : (u : History) → o.outcome ≡ u → Caused book o u → OpensVersion book o u
     by (told.Opened len digest) e cause =
         let point = cause.1.point in
-        let version : version_at book o.file point ≡ version_by (early_of book.opening) k.ops o.file point = ap (λ l. version_by (early_of book.opening) l o.file point) kept.ops in
+        let version : version_at book o.file point ≡ version_by (early_of book.opening book.raws) k.ops o.file point = version_split book o.file point ∙ ap (λ l. version_by (early_of book.opening book.raws) l o.file point) kept.ops in
         elim (h.opened p len point digest o (ap (λ (l : List Op). slice_get l p) (sym kept.ops) ∙ at) e cause.1.within.0) [
           | inl w ↦ (let v = subst (λ v. CameTo (taken_of book.moments) o point v × Since (taken_of book.moments) o point v) (sym version) w in inl (record { point = point; point_is = cause.1.within.0; some = v.0; all = v.1 }))
           | inr n ↦ inr (n.ends, cause.1.within.0 ∙ ap (λ (q : ℕ). Some q) n.at, n.version_is leased ∙ sym version ∙ ap (version_at book o.file) n.at)

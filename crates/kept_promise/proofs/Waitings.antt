@@ -19,12 +19,13 @@ use Rattle.kept_promise.proofs.Shelf.{IsShelf}
 use Rattle.kept_promise.proofs.Orderly.{locals_of, Held}
 use Rattle.kept_promise.proofs.Ordered.{SameFound, orderly_taken}
 use Rattle.kept_promise.proofs.Statements.{CallFits}
-use Rattle.kept_promise.proofs.Facts.{HasTerm, IsWanted, change_number, IsSession, IsKept, commits_in}
+use Rattle.kept_promise.proofs.Facts.{IsLeasing, IsWanted, change_number, IsSession, IsKept, commits_in}
 use Rattle.kept_promise.proofs.Takes.{took, file_still, fresh_still}
 use Rattle.kept_promise.proofs.Calls.{Given, session_in, first_fits, rest_of, served}
 use Rattle.kept_promise.proofs.Leading.{Leads}
 use Rattle.kept_promise.proofs.Recallings.{recalls_asked, recalls_small, recalls_alone}
 use Rattle.kept_promise.proofs.Rights.{WasThere}
+use Rattle.kept_promise.proofs.RecallsKept.{asks_recalls}
 
 pub own_more : (m : ℕ) (ws : List FileChange) (c : FileChange) → own m (ws ++ c ∷ []) ≡ own m ws ++ own m (c ∷ [])
 own_more m [] c = refl
@@ -80,7 +81,7 @@ pub record ComesToWait (book : Book) (k : Core) (n : ℕ) (x : Session) (q : Que
   pub held : x.cut ≡ false → Held temps n us q.downs (locals_of h.seat.client) (job h.seat)
   pub waits : WaitsFor (onward book 1 book.ops) d.session x.closing x.cut (job h.seat) d.xid d.file d.what
 
-kept_coming : (book : Book) (k : Core) (qs : List Queue) (n now : ℕ) (leasing : Leasing) (x : Session) (q : Queue) (a : Ask) (us : List Ask) (temps : List (ℕ × Temp)) (d : FileChange) (sessions : List Session) (after : List Queue) → (g : Given book k qs n now x q a us) → HasTerm leasing → ComesToWait book k n x q a us temps d (session_in book k qs n now x q a us g)
+kept_coming : (book : Book) (k : Core) (qs : List Queue) (n now : ℕ) (leasing : Leasing) (x : Session) (q : Queue) (a : Ask) (us : List Ask) (temps : List (ℕ × Temp)) (d : FileChange) (sessions : List Session) (after : List Queue) → (g : Given book k qs n now x q a us) → IsLeasing leasing → ComesToWait book k n x q a us temps d (session_in book k qs n now x q a us g)
     → Around k.sessions sessions n (took x a.xid (book.steps + 1)) → Around qs after n (record q { ups = us })
     → IsKept (onward book 1 book.ops) (turned_core k (onward book 1 book.ops) (record k.server { leasing = leasing; temps = temps; waiting = k.server.waiting ++ d ∷ [] }) k.seats sessions) after
 kept_coming book k qs n now leasing x q a us temps d sessions after g leases comes around queues =
@@ -219,9 +220,9 @@ leads_coming book k qs n now x q a us temps d g shows =
     let around = around_with k.sessions n x z g.at in
     let more = onward book 1 book.ops in
     let r : server.State = record k.server { leasing = leasing; temps = temps; waiting = k.server.waiting ++ d ∷ [] } in
-    let done : IsKept more (turned_core k more r k.seats sessions) (rest_of qs n q us) = kept_coming book k qs n now leasing x q a us temps d sessions (rest_of qs n q us) g g.kept.server.leases shows (record { there = around.there ∙ ap (λ v. Some v) (sym same_step); others = around.others; count = around.count }) (around_with qs n q (record q { ups = us }) g.is) in
+    let done : IsKept more (turned_core k more r k.seats sessions) (rest_of qs n q us) = kept_coming book k qs n now leasing x q a us temps d sessions (rest_of qs n q us) g (g.kept.server.leases.0, asks_recalls (recalls_for s d) k.server.leasing.calls g.kept.server.leases.1) shows (record { there = around.there ∙ ap (λ v. Some v) (sym same_step); others = around.others; count = around.count }) (around_with qs n q (record q { ups = us }) g.is) in
     record {
-      sends = record { replies = []; replies_fit = tt; asks = []; up_is = refl; recalls = recalls_asked s d; recalls_fit = recalls_small s d shows.known.small; tolds = []; down_is = recalls_alone (recalls_asked s d) };
+      sends = record { replies = []; replies_fit = tt; asks = []; up_is = refl; strays = []; strays_cut = tt; recalls = recalls_asked s d; recalls_fit = recalls_small s d shows.known.small; tolds = []; down_is = recalls_alone (recalls_asked s d) };
       more = more;
       moments = refl;
       opening = refl;

@@ -55,6 +55,7 @@ use Rattle.kept_promise.proofs.Walked.{HasWalk, leads_past, walk_begins}
 use Rattle.kept_promise.proofs.WalkRuns.{bare, GetsFile, OnWay, IsOn, EndsAs, IsOver, Walks, EarlyBy, is_on, took_file, heard_walk, IsBare}
 use Rattle.kept_promise.proofs.OneSession.{AtOneSession}
 use Rattle.kept_promise.proofs.WalksOnward.{WayKept, same_kept, onward, walks_still, begin_stays, word_stays, acted_at, StepComes, acted_onward}
+use Rattle.kept_promise.proofs.Turns.{has_owner}
 
 -- ---- one on a file, and one whose file was found
 
@@ -241,7 +242,7 @@ heard_comes laws all past opening k qs n now bytes mid kept h order one noted is
       where
         on_path : (cmd : Command) → d.command ≡ cmd → IsOn all cmd o (stage.Walking y w) k.steps → (let z = walked (idle s) (client.calls_of s) x (is_look w.goal) (walk_told w (name_answer r)) in StepComes all d o z taken (k.steps + 1))
         on_path (command.Named c) named (step, has, before, plain, word) =
-            let sess = kept.sessions n h.session h.queue h.at h.queue_is in
+            let sess = kept.sessions n h.session h.queue h.at h.queue_is (has_owner k.seats h.session h.seat h.owner) in
             let same_seat : sess.seat ≡ h.seat = some_is sess.seat h.seat (sym sess.owner ∙ h.owner) in
             let talk = sess.talk h.uncut in
             let job_ : job sess.seat ≡ Some j = ap job same_seat ∙ is in

@@ -103,7 +103,7 @@ kept_finds book k qs n x q t ts j g id s a cache sent tr seats after w cached ar
     let seat_was = g.kept.seats x.owner h.seat h.owner in
     let bound = tolds_below n k.server.waiting q x.hung h.seat.client.next_xid (client.calls_of h.seat.client) talk.balanced in
     let moved : IsOf more x.owner i = record { op = r; there = at_replaced book.ops j.place r of.op of.there; client = of.client; word = of.word ∙ sym w.word; file = λ n. refl; running = of.running } in
-    kept_heard book ops k qs n x q t ts c (Some j.place) (a ∷ []) None (Some j.place) seats after g.kept g.at g.is g.first g.uncut around queues (record {
+    kept_heard book ops k qs n x q t ts c (Some j.place) (a ∷ []) None (Some j.place) seats after g.kept g.at g.is g.owned g.first g.uncut around queues (record {
       goes = goes;
       still = still_becomes book 1 None (Some j.place) j.place of.op r of.there became g.kept.sound;
       made_here = λ p f. nothing_there p f;

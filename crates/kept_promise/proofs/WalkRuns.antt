@@ -72,7 +72,7 @@ use Rattle.kept_promise.proofs.RefusedCalls.{tree_tells}
 
 -- a book that says of the past what its moments are
 abbrev pub bare : List Moment → Book
-bare all = record { lbfs = 0; opening = []; ops = []; steps = 0; journal = []; entries = []; moments = all }
+bare all = record { lbfs = 0; opening = []; ops = []; raws = []; steps = 0; journal = []; entries = []; moments = all }
 
 -- one that changes no file has none yet, and no point
 abbrev pub IsBare : PathCommand → Op → Type 0

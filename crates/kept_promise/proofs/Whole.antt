@@ -1,13 +1,14 @@
 -- One message on its way, taken in pieces.
-use Rattle.std.proofs.Common.{◌≡◌, ℕ, ◌<◌, ◌≤◌, List, [], ◌∷◌, ◌++◌, Option, Some, None, length, take, drop, refl, ap, ◌∙◌, arith, append_assoc, length-append, map, true}
+use Rattle.std.proofs.Common.{◌≡◌, ℕ, ◌<◌, ◌≤◌, List, [], ◌∷◌, ◌++◌, Option, Some, None, length, take, drop, refl, ap, ◌∙◌, arith, append_assoc, length-append, map, true, false}
 use Rattle.std.proofs.lemmas.List.{drop_all}
 use Rattle.rpc_record.proofs.lemmas.Streaming.{marked_begun, marked_whole}
 use Rattle.rpc_record.proofs.lemmas.Splitting.{split_begun, split_whole}
 use Rattle.trace_ends.specs.Core.{server_got}
 use Rattle.kept_promise.specs.Whole.{Comes, client_got, UpsComeWhole, DownsComeWhole}
-use Rattle.kept_promise.proofs.Common.{take_all, take-append-drop, length-drop, nat_tests, Fed, Unread, Parts, nothing_read, record_of, fed, marked, message_spell, MessageFits, IsExpected, Message, waiting_of, got_step, Core, Seat, Session, Event.Serves, Event.Hears, numbered, server_waits, serves, serves_if, hears, hears_at, hears_if, is_newest, acted, World, Wire, bytes_of, routed, all_happened, up_at, up_some, down_at, down_some, up_with, down_with}
+use Rattle.kept_promise.proofs.Common.{take_all, take-append-drop, length-drop, nat_tests, Fed, Unread, Parts, nothing_read, record_of, fed, marked, message_spell, MessageFits, IsExpected, Message, waiting_of, got_step, Core, Seat, Session, Event.Serves, Event.Hears, numbered, server_waits, serves, serves_if, hears, hears_at, hears_if, is_newest, acted, World, Wire, bytes_of, routed, all_happened, up_at, up_some, down_at, down_some, up_with, down_with, serves_unless}
 use Rattle.kept_promise.proofs.Fits.{FitLaws}
 use Rattle.kept_promise.proofs.Bytes.{fed_sound}
+use Rattle.trace_replay.specs.Delivery.{taken_up}
 
 -- ---- what an end makes of a piece
 
@@ -49,14 +50,14 @@ still_comes end queue count m way lt =
 -- ---- up
 
 abbrev up_by : World → (number now : ℕ) → Wire → (left : List ℕ) → Unread × Fed → World
-up_by w number now q left r = all_happened (up_with w number q left r.0) (map (Serves number now) r.1.records)
+up_by w number now q left r = all_happened (up_with w number q left r.0) (map (Serves number now) (taken_up r.1))
 
 -- the server takes what is spelled
-served : FitLaws → (k : Core) (number now : ℕ) (x : Session) (m : Message) → numbered k.sessions number ≡ Some x → MessageFits m → IsExpected (server_waits k number) m → serves k number now (message_spell m) (numbered k.sessions number) ≡ server_got k number now x m
-served laws k number now x m at fits expected = ap (serves k number now (message_spell m)) at ∙ ap (serves_if k number now x) (laws.again (server_waits k number) m fits.0 expected)
+served : FitLaws → (k : Core) (number now : ℕ) (x : Session) (m : Message) → numbered k.sessions number ≡ Some x → x.hung ≡ false → MessageFits m → IsExpected (server_waits k number) m → serves k number now (message_spell m) (numbered k.sessions number) ≡ server_got k number now x m
+served laws k number now x m at unhung fits expected = ap (serves k number now (message_spell m)) at ∙ ap (serves_unless k number now (message_spell m) x) unhung ∙ ap (serves_if k number now x) (laws.again (server_waits k number) m fits.0 expected)
 
 pub ups_come_whole : FitLaws → UpsComeWhole
-ups_come_whole laws = λ w number q x m count now wire at fits expected way. (λ lt. part w number q m count now wire fits way lt, λ le. whole w number q x m count now wire at fits expected way le)
+ups_come_whole laws = λ w number q x m count now wire at unhung fits expected way. (λ lt. part w number q m count now wire fits way lt, λ le. whole w number q x m count now wire at unhung fits expected way le)
   where
     by : (w : World) (number : ℕ) (q : Wire) (count now : ℕ) → numbered w.wires number ≡ Some q → up_some w number count now ≡ up_by w number now q (drop count q.up) (fed q.server_end (take count q.up))
     by w number q count now wire = ap (up_at w number count now) wire
@@ -66,13 +67,13 @@ ups_come_whole laws = λ w number q x m count now wire at fits expected way. (λ
     part w number q m count now wire fits way lt =
         ((keeps (q.server_end.rest ++ take count q.up)).0, by w number q count now wire ∙ ap (up_by w number now q (drop count q.up)) (fed_part q.server_end q.up count m fits way lt), still_comes q.server_end q.up count m way lt)
 
-    whole : (w : World) (number : ℕ) (q : Wire) (x : Session) (m : Message) (count now : ℕ) → numbered w.wires number ≡ Some q → numbered w.core.sessions number ≡ Some x → MessageFits m → IsExpected (server_waits w.core number) m → Comes q.server_end q.up m → length q.up ≤ count
+    whole : (w : World) (number : ℕ) (q : Wire) (x : Session) (m : Message) (count now : ℕ) → numbered w.wires number ≡ Some q → numbered w.core.sessions number ≡ Some x → x.hung ≡ false → MessageFits m → IsExpected (server_waits w.core number) m → Comes q.server_end q.up m → length q.up ≤ count
         → up_some w number count now ≡ routed (up_with w number q [] nothing_read) (server_got w.core number now x m)
-    whole w number q x m count now wire at fits expected way le =
+    whole w number q x m count now wire at unhung fits expected way le =
         by w number q count now wire
         ∙ ap (up_by w number now q (drop count q.up)) (fed_whole q.server_end q.up count m fits way le)
         ∙ ap (λ (left : List ℕ). up_by w number now q left (gives (message_spell m ∷ []))) (drop_all count q.up le)
-        ∙ ap (routed (up_with w number q [] nothing_read)) (served laws w.core number now x m at fits expected)
+        ∙ ap (routed (up_with w number q [] nothing_read)) (served laws w.core number now x m at unhung fits expected)
 
 -- ---- down
 

@@ -5,7 +5,7 @@ use Rattle.trace_replay.specs.Trail.{hashed_in}
 use Rattle.kept_promise.proofs.Common.{Contains, Contains-append_left, Contains-append_right, flat_map, Core, Moment, Op, Queue, Book, hashed_of}
 use Rattle.kept_promise.proofs.Facts.{IsKept, IsServer}
 use Rattle.kept_promise.proofs.Rights.{AreAlike, IsSound}
-use Rattle.kept_promise.proofs.Growth.{Grows, follows_same, there_later, right_later, fitted_later}
+use Rattle.kept_promise.proofs.Growth.{Grows, follows_same, there_later, right_later, fitted_later, stranger_later}
 use Rattle.kept_promise.proofs.History.{Goes, tells_later}
 use Rattle.kept_promise.proofs.Rests.{kept_rest}
 use Rattle.kept_promise.proofs.Later.{same_view}
@@ -41,16 +41,18 @@ hashed_wider (m ∷ few) more wider b h = elim (either_in (hashed_in m) (hashed_
 -- ---- a book
 
 pub grows_wider : (book : Book) (ms : List Moment) → Wider book.moments ms → Grows book (noting book ms) None None
-grows_wider book ms wider = record { lbfs = refl; opening = refl; happened = wider; hashed = λ b h. hashed_wider book.moments ms wider b h; passes = omega arith; steps_kept = λ j p e. e; entries_new = λ j p e. inl e; journal_kept = λ j e at. at; values = λ f p le. refl; each = λ k o at. (o, at, follows_same book None None k o) }
+grows_wider book ms wider = record { lbfs = refl; opening = refl; happened = wider; hashed = λ b h. hashed_wider book.moments ms wider b h; passes = omega arith; steps_kept = λ j p e. e; entries_new = λ j p e. inl e; journal_kept = λ j e at. at; values = λ f p le. refl; raws_kept = λ j r e. e; each = λ k o at. (o, at, follows_same book None None k o) }
 
 goes_wider : (book : Book) (ms : List Moment) → Wider book.moments ms → AreAlike ms → IsSound book → Goes book (noting book ms) None None
 goes_wider book ms wider alike sound =
     let g = grows_wider book ms wider in
     record {
       grows = g;
+      raws = refl;
       sound = record {
         rights = λ k o at. right_later book (noting book ms) None None o g (sound.rights k o at);
         fits = λ k o at. fitted_later book (noting book ms) None None o o g refl (λ c. (refl, refl)) (sound.rights k o at) (sound.fits k o at);
+        strangers = λ k r at. stranger_later book (noting book ms) None None r g (sound.strangers k r at);
         journal = record {
           count = sound.journal.count;
           rising = sound.journal.rising;

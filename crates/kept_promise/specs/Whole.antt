@@ -1,5 +1,5 @@
 -- A message that is on its way alone: it is taken whole, wherever deliveries cut it.
-use Rattle.std.specs.Prelude.{◌≡◌, ℕ, ◌<◌, ◌≤◌, List, [], ◌∷◌, ◌++◌, Ok, Some, None, length, drop}
+use Rattle.std.specs.Prelude.{◌≡◌, ℕ, ◌<◌, ◌≤◌, List, [], ◌∷◌, ◌++◌, Ok, Some, None, length, drop, false}
 use Rattle.rpc_record.specs.Records.{Unread, nothing_read}
 use Rattle.wire.specs.Message.{MessageFits}
 use Rattle.wire.specs.Parse.{IsExpected}
@@ -42,9 +42,9 @@ IsDownTo w number q owner seat m count now =
     (count < length q.down → (end : Unread) × (down_some w number count now ≡ down_with w number q (drop count q.down) end) × Comes end (drop count q.down) m)
     × (length q.down ≤ count → down_some w number count now ≡ routed (down_with w number q [] nothing_read) (client_got w.core owner now seat m))
 
--- so it is in every world, of a message that fits a record and that its end expects
+-- so it is in every world, of a message that fits a record and that its end expects, on a session that the server hasn't seen lost
 abbrev pub UpsComeWhole : Type 0
-UpsComeWhole = (w : World) (number : ℕ) (q : Wire) (x : Session) (m : Message) (count now : ℕ) → numbered w.wires number ≡ Some q → numbered w.core.sessions number ≡ Some x
+UpsComeWhole = (w : World) (number : ℕ) (q : Wire) (x : Session) (m : Message) (count now : ℕ) → numbered w.wires number ≡ Some q → numbered w.core.sessions number ≡ Some x → x.hung ≡ false
     → MessageFits m → IsExpected (server_waits w.core number) m → Comes q.server_end q.up m → IsUpTo w number q x m count now
 
 -- and of one that its session's owner expects, whose newest session that is

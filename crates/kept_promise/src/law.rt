@@ -17,10 +17,11 @@ ghost use Rattle.kept_promise.specs.Arrivals.{UpsComeInOrder, DownsComeInOrder};
 /// lists that were hashed in the run share a digest. What an operation counts is what was sent and
 /// received for it, and bytes that the other end was found to have are not sent. Operations whose client
 /// is left alone have ended, and well. A change waits no longer than the leases that hold it up, which are
-/// asked for and given up; and an open under a lease that is noted asks nobody. Each change that waits at
-/// the server has the value of the close that asked for it, which is still running or was lost, and of
-/// each file the server's tree has what the history says; and what is on its way on each session are
-/// whole messages, which their end takes. It does nothing: a caller learns this by calling it.
+/// asked for and given up; and an open under a lease that is noted asks nobody. Each change of a client
+/// that waits at the server has the value of the close that asked for it, which is still running or was
+/// lost, and of each file the server's tree has what the history says; and what is on its way on each
+/// session of a client are whole messages, which their end takes. Beside sessions that are no client's
+/// all of this holds, whatever these send. It does nothing: a caller learns this by calling it.
 pub fn promise_is_kept()
     ensures { (input : List ℕ) (w : World) → accepted input ≡ Ok w → IsKeptPromise input w }
 {}

@@ -13,7 +13,7 @@ use Rattle.trace_ends.specs.declared.adjusting.Adjustment.TheVariants as adjustm
 use Rattle.trace_replay.specs.declared.stage.Stage.{Stage}
 use Rattle.trace_replay.specs.declared.stage.Stage.TheVariants as stage
 use Rattle.trace_replay.specs.declared.turn.Turn.TheVariants as turn
-use Rattle.kept_promise.proofs.Common.{slice_get, slice_set, fed, has_room, connect, command_step, ClientStep, Word, Turn, Core, Seat, Session, CoreStep, Event, Event.Joins, Event.Does, Event.Serves, Event.Hears, Event.Settles, Event.Cuts, Event.Hangs, new_session, numbered, with_numbered, session_of, commanded_sessions, cut_session, joins, joins_as, happens, World, Wire, happened, all_happened, up_some, up_at, down_some, down_at, up_all, up_length, down_length, is_still, round, passes, at_events, count_of, turned, owners_of}
+use Rattle.kept_promise.proofs.Common.{slice_get, slice_set, fed, has_room, connect, command_step, ClientStep, Word, Turn, Core, Seat, Session, CoreStep, Event, Event.Joins, Event.Does, Event.Serves, Event.Hears, Event.Settles, Event.Cuts, Event.Hangs, new_session, numbered, with_numbered, session_of, commanded_sessions, cut_session, joins, joins_as, happens, World, Wire, happened, all_happened, up_some, up_at, down_some, down_at, up_all, up_length, down_length, is_still, round, passes, at_events, count_of, turned, owners_of, Event.RawJoins, raw_joins_as, raw_session}
 use Rattle.kept_promise.proofs.RecallsKept.{step_term}
 use Rattle.kept_promise.proofs.Lists.{nothing_there}
 use Rattle.kept_promise.proofs.Happens.{what_happens}
@@ -49,6 +49,7 @@ cut_keeps k _ _ at = refl
 
 abbrev MakesNone : Event → Type 0
 MakesNone (Joins n) = ⊥
+MakesNone RawJoins = ⊥
 MakesNone e = Unit {0}
 
 happens_keeps : (k : Core) (e : Event) → MakesNone e → Keeps k (happens k e)
@@ -58,11 +59,14 @@ happens_keeps k e m = what_happens k e (Keeps k) (record {
   joins = λ c seat is. absurd (subst MakesNone is m);
   refuses = λ c seat is. refl;
   does = λ c now d seat is. commanded_keeps k seat.session (session_of k.sessions seat.session) refl seat.place (length k.ops) _ (command_step seat.client d now).1;
-  takes = λ n now bytes x z is at read. with_owner k.sessions n x _ at refl;
+  takes = λ n now bytes x z is at stands read. with_owner k.sessions n x _ at refl;
+  closes = λ n now bytes x is at stands. with_owner k.sessions n x _ at refl;
+  raw_joins = λ is. absurd (subst MakesNone is m);
+  raw_refuses = λ is. refl;
   hears = λ n now bytes owner seat is. refl;
   settles = λ now is. refl;
   cuts = λ c seat is. cut_keeps k seat.session (session_of k.sessions seat.session) refl;
-  hangs = λ n x is at. with_owner k.sessions n x _ at refl;
+  hangs = λ n x is at stands. with_owner k.sessions n x _ at refl;
 })
 
 -- ---- the header
@@ -82,11 +86,14 @@ happens_header k e = what_happens k e (λ t. header_of t.core ≡ header_of k) (
   joins = λ c seat is. refl;
   refuses = λ c seat is. refl;
   does = λ c now d seat is. refl;
-  takes = λ n now bytes x m is at read. term_alone k _ (step_term k.server false (event.Got n m now));
+  takes = λ n now bytes x m is at stands read. term_alone k _ (step_term k.server false (event.Got n m now));
+  closes = λ n now bytes x is at stands. term_alone k _ (step_term k.server false (event.Hang n));
+  raw_joins = λ is. refl;
+  raw_refuses = λ is. refl;
   hears = λ n now bytes owner seat is. refl;
   settles = λ now is. term_alone k _ (step_term k.server false (event.Settle now));
   cuts = λ c seat is. refl;
-  hangs = λ n x is at. term_alone k _ (step_term k.server false (event.Hang n));
+  hangs = λ n x is at stands. term_alone k _ (step_term k.server false (event.Hang n));
 })
 
 -- ---- the world
@@ -119,7 +126,7 @@ up_same w n count now = by (numbered w.wires n)
   where
     by : (o : Option Wire) → Same w (up_at w n count now o)
     by None = same w
-    by (Some q) = let h = serve_all (Rattle.trace_replay.specs.Delivery.up_taken w n count q) n now (fed q.server_end (take count q.up)).1.records in record { stage = h.stage; header = h.header; owners = h.owners }
+    by (Some q) = let h = serve_all (Rattle.trace_replay.specs.Delivery.up_taken w n count q) n now (Rattle.trace_replay.specs.Delivery.taken_up (fed q.server_end (take count q.up)).1) in record { stage = h.stage; header = h.header; owners = h.owners }
 
 down_same : (w : World) (n count now : ℕ) → Same w (down_some w n count now)
 down_same w n count now = by (numbered w.wires n)
@@ -182,6 +189,7 @@ stage_after s t = stage.Events
 
 abbrev pub owners_after : (owners : List ℕ) → (joins : Bool) → Turn → List ℕ
 owners_after os true (turn.Join c) = os ++ c ∷ []
+owners_after os true turn.RawJoin = os ++ 0 ∷ []
 owners_after os b t = os
 
 abbrev pub header_after : ℕ × ℕ → Turn → ℕ × ℕ
@@ -201,12 +209,16 @@ owners_one (z ∷ xs) x = ap (λ l. z.owner ∷ l) (owners_one xs x)
 joined_to : (w : World) (c : ℕ) (seat : Seat) → numbered w.core.seats c ≡ Some seat → has_room w.core.server ≡ true → owners_of (happened (at_events w) (Joins c)) ≡ owners_of w ++ c ∷ []
 joined_to w c seat at room = ap (λ (o : Option Seat). owners (joins w.core c o).core.sessions) at ∙ ap (λ (b : Bool). let r = connect w.core.server b in owners (joins_as w.core c seat r.0 r.1.told).core.sessions) room ∙ owners_one w.core.sessions (new_session c)
 
+raw_joined_to : (w : World) → has_room w.core.server ≡ true → owners_of (happened (at_events w) RawJoins) ≡ owners_of w ++ 0 ∷ []
+raw_joined_to w room = ap (λ (b : Bool). let r = connect w.core.server b in owners (raw_joins_as w.core r.0 r.1.told).core.sessions) room ∙ owners_one w.core.sessions raw_session
+
 by_same : (w v : World) (t : Turn) → stage_after w.stage t ≡ stage.Events → header_after (header_of w.core) t ≡ header_of w.core → owners_after (owners_of w) true t ≡ owners_of w → Same (at_events w) v → TurnedTo w v t true
 by_same w v t s g o h = record { stage = h.stage ∙ sym s; header = h.header ∙ sym g; owners = h.owners ∙ sym o }
 
--- where a client joins there is room for its session
+-- where a session is made there is room for it
 abbrev pub MayTurn : World → Turn → Type 0
 MayTurn w (turn.Join c) = ((seat : Seat) × (numbered w.core.seats c ≡ Some seat)) × (has_room w.core.server ≡ true)
+MayTurn w turn.RawJoin = has_room w.core.server ≡ true
 MayTurn w t = Unit {0}
 
 pub turned_to : (w : World) (t : Turn) → MayTurn w t → TurnedTo w (turned w t) t true
@@ -217,6 +229,8 @@ turned_to w (turn.Down n a now) m = by_same w _ (turn.Down n a now) refl refl re
 turned_to w (turn.Settle now) m = by_same w _ (turn.Settle now) refl refl refl (happened_same (at_events w) (Settles now) tt)
 turned_to w (turn.Cut c) m = by_same w _ (turn.Cut c) refl refl refl (happened_same (at_events w) (Cuts c) tt)
 turned_to w (turn.Hang n) m = by_same w _ (turn.Hang n) refl refl refl (happened_same (at_events w) (Hangs n) tt)
+turned_to w turn.RawJoin m = record { stage = refl; header = happens_header w.core RawJoins; owners = raw_joined_to w m }
+turned_to w (turn.Raw n bytes) m = by_same w _ (turn.Raw n bytes) refl refl refl (record { stage = refl; header = refl; owners = refl })
 turned_to w (turn.Pass n k server at) m = by_same w _ (turn.Pass n k server at) refl refl refl (passes_same k (at_events w) n server at)
 turned_to w (turn.Adjust a) m = by_same w _ (turn.Adjust a) refl refl refl (adjusts_same (at_events w) a)
 turned_to w _ m = record { stage = refl; header = refl; owners = refl }
