@@ -106,8 +106,19 @@ class Calls:
             out.append((LBFS, 4, number(fd) + number(0, 8) + opaque(piece)))
         return out + [(LBFS, 6, number(fd) + target + number(len(piece) if self.random.random() < 0.9 else 1, 8))]
 
+    def refused(self):
+        """An answer that refuses what was asked for: another version of RPC, or an authentication."""
+        return number(self.random.randint(1, 3)) + number(1) + number(1) + self.random.choice((number(0) + number(2) + number(2), number(1) + number(5)))
+
+    def changed(self, bytes_):
+        """The same with another bit."""
+        at = self.random.randrange(len(bytes_))
+        return bytes_[:at] + bytes((bytes_[at] ^ 1 << self.random.randrange(8),)) + bytes_[at + 1 :]
+
     def bodies(self):
         kind = self.random.random()
+        if kind < 0.02:
+            return [self.refused()]
         if kind < 0.12:
             return [answered(self.random.randint(1, 3), self.random.choices((0, 1, 5, 6), (20, 1, 1, 0.3))[0])]
         if kind < 0.2:
@@ -122,11 +133,14 @@ class Calls:
         return out
 
     def bytes(self):
-        """What a session sends at once: records in fragments, and now and then noise."""
-        if self.random.random() < 0.01:
-            return self.random.randbytes(self.random.randint(1, 400))
+        """What a session sends at once: records in fragments, and now and then noise, alone, behind a right header or as a bit of a call."""
+        noise = self.random.random()
+        if noise < 0.02:
+            some = self.random.randbytes(self.random.randint(1, 400))
+            return some if noise < 0.01 else record(some)
         sizes = lambda: [self.random.choice((0, 1, 4, 40)) for _ in range(self.random.choice((0, 0, 0, 1, 5)))]
-        return b"".join(record(body, sizes()) for body in self.bodies())
+        out = b"".join(record(body, sizes()) for body in self.bodies())
+        return self.changed(out) if noise < 0.05 else out
 
 
 def with_raw(maker):
