@@ -1,6 +1,7 @@
 pub mod Steps
 pub mod Redo
 pub mod Stage
+pub mod Gone
 pub mod Add
 pub mod Hold
 pub mod End

@@ -1,8 +1,9 @@
 -- A change is made as a whole or not at all.
 use Rattle.std.specs.Prelude.{◌≡◌, ◌⊎◌, ℕ, suc, Bool, true, false, if◌then◌else◌, List, [], ◌∷◌, ◌++◌, length, Option, Some, None, Result, Ok, Err, OnOk}
 use Rattle.log_store.specs.Names.{same_which, is_among}
-use Rattle.log_store.specs.Lines.{Log, Records, latest, task_of, lines_of, changed, bytes_of}
-use Rattle.log_store.specs.Disk.{Files, Firm, Disk, Leaves}
+use Rattle.lb_base.specs.Causes.{Rose}
+use Rattle.log_store.specs.Lines.{Log, Records, latest, task_of, lines_of, changed, bytes_of, is_large}
+use Rattle.log_store.specs.Disk.{Files, Missing, Firm, Disk, Leaves}
 use Rattle.log_store.specs.Sound.{Loads, OneOf, IsSound, kept, shown_file, moves}
 use Rattle.log_store.specs.declared.edit.Edit.{Edit}
 use Rattle.log_store.specs.declared.edit.What.{What}
@@ -11,6 +12,7 @@ use Rattle.log_store.specs.declared.folder.Fault.{Fault}
 use Rattle.log_store.specs.declared.staging.Undone.{Undone}
 use Rattle.log_store.specs.declared.staging.Undone.TheVariants as undone
 use Rattle.log_store.specs.declared.which.Which.{Which}
+use Rattle.log_store.specs.declared.which.FileName.{FileName}
 use Rattle.log_store.specs.declared.which.FileName.TheVariants.{Record, New}
 
 abbrev pub large_by : What → Option (List ℕ)
@@ -79,6 +81,23 @@ pub record Added (edits : List Edit) (records : Records) (past : List Records) (
   pub left : (c : Files) (l : Log) → new.may_leave c l → OneOf (changed edits records ∷ records ∷ past) c l
   pub made : OnOk result ((more : List Which) → Covers pending edits more → IsSound (changed edits records) (records ∷ past) more new)
   pub before : IfBefore result (IsSound records past pending new)
+
+-- a file is gone, unless a call failed
+abbrev pub IsGone : FileName → Disk → (before after : ℕ) → Type 0
+IsGone name d before after = (d.seen name ≡ Missing) ⊎ Rose before after
+
+-- and so are the new files of large edits
+abbrev pub AreGone : List Edit → Disk → (before after : ℕ) → Type 0
+AreGone [] d before after = Unit {0}
+AreGone (e ∷ es) d before after = (is_large e ≡ true → IsGone (New e.which) d before after) × AreGone es d before after
+
+-- what isn't there doesn't come back
+abbrev pub StaysGone : Disk → Disk → Type 0
+StaysGone old new = (x : FileName) → old.seen x ≡ Missing → new.seen x ≡ Missing
+
+-- a call failed, and then new files went, unless a further one did
+abbrev pub GoneAfter : List Edit → Disk → (before after : ℕ) → Type 0
+GoneAfter edits d before after = (mid : ℕ) × Rose before mid × AreGone edits d mid after
 
 -- nothing was done that is of any weight
 pub record Cleaned (records : Records) (past : List Records) (pending : List Which) (old new : Disk) : Type 0 where

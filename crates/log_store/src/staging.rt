@@ -5,7 +5,7 @@ ghost use Rattle.std.specs.Prelude.{◌≡◌, ◌≤◌, ◌++◌, ◌∷◌, [
 ghost use Rattle.lb_base.specs.Causes.{Rose};
 ghost use Rattle.log_store.specs.Lines.{Records, Log, lines_of, is_clear};
 ghost use Rattle.log_store.specs.Sound.{IsSound};
-ghost use Rattle.log_store.specs.Making.{Staged, Ready, AreReady, IsMaybe, TakenBack, Added, Cleaned};
+ghost use Rattle.log_store.specs.Making.{Staged, Ready, AreReady, IsMaybe, TakenBack, Added, Cleaned, AreGone, StaysGone, GoneAfter, IfBefore};
 ghost use Rattle.log_store.specs.declared.edit.Edit.{Edit};
 ghost use Rattle.log_store.specs.declared.which.Which.{Which};
 
@@ -92,9 +92,12 @@ fn add<D: Folder>(folder: &mut D, edits: &[Edit<'_>]) -> Result<(), Undone>
     }
 }
 
-/// Removes the new files of edits, which the log doesn't name: the room that they take is free again.
-#[tactic(auto, using(crate::proofs::Stage::clear_first, crate::proofs::Stage::clear_later, crate::proofs::Stage::cleaned_on, crate::proofs::Stage::cleaned_none))]
+/// Removes the new files of edits, which the log doesn't name: the room that they take is free again, unless a call
+/// fails.
+#[tactic(auto, using(crate::proofs::Stage::cleaned_none, crate::proofs::Gone::stays_on))]
 fn clean<D: Folder>(folder: &mut D, edits: &[Edit<'_>])
+    ensures gone { D.told → AreGone edits.now (D.state folder.new) (D.faults folder.old) (D.faults folder.new) }
+    ensures stays { D.told → StaysGone (D.state folder.old) (D.state folder.new) }
     ensures does { D.told → (records : Records) (past : List Records) (pending : List Which) → IsSound records past pending (D.state folder.old) → is_clear edits.now pending ≡ true → Cleaned records past pending (D.state folder.old) (D.state folder.new) }
     ensures later { D.faults folder.old ≤ D.faults folder.new }
 {
@@ -106,6 +109,8 @@ fn clean<D: Folder>(folder: &mut D, edits: &[Edit<'_>])
 
 /// Removes the new file of an edit.
 fn clean_one<D: Folder>(folder: &mut D, edit: &Edit<'_>)
+    ensures gone { D.told → AreGone (edit.now ∷ []) (D.state folder.new) (D.faults folder.old) (D.faults folder.new) }
+    ensures stays { D.told → StaysGone (D.state folder.old) (D.state folder.new) }
     ensures does { D.told → (records : Records) (past : List Records) (pending : List Which) → IsSound records past pending (D.state folder.old) → is_clear (edit.now ∷ []) pending ≡ true → Cleaned records past pending (D.state folder.old) (D.state folder.new) }
     ensures later { D.faults folder.old ≤ D.faults folder.new }
 {
@@ -119,6 +124,7 @@ fn clean_one<D: Folder>(folder: &mut D, edit: &Edit<'_>)
 
 /// Adds the entry of edits to the log, and removes their new files where it was taken back.
 fn add_or_clean<D: Folder>(folder: &mut D, edits: &[Edit<'_>]) -> Result<(), Undone>
+    ensures gone { D.told → IfBefore result (GoneAfter edits.now (D.state folder.new) (D.faults folder.old) (D.faults folder.new)) }
     ensures does { D.told → (records : Records) (past : List Records) (pending : List Which) → IsSound records past pending (D.state folder.old) → AreReady edits.now (D.state folder.old) → is_clear edits.now pending ≡ true → Added edits.now records past pending (D.state folder.old) (D.state folder.new) result }
     ensures later { D.faults folder.old ≤ D.faults folder.new }
     ensures cause { OnErr result (Rose (D.faults folder.old) (D.faults folder.new)) }
@@ -135,6 +141,7 @@ fn add_or_clean<D: Folder>(folder: &mut D, edits: &[Edit<'_>]) -> Result<(), Und
 
 /// Makes a change as a whole or not at all. What one wrote that wasn't made goes at once.
 pub(crate) fn change<D: Folder>(folder: &mut D, edits: &[Edit<'_>]) -> Result<(), Undone>
+    ensures gone { D.told → IfBefore result (GoneAfter edits.now (D.state folder.new) (D.faults folder.old) (D.faults folder.new)) }
     ensures does { D.told → (records : Records) (past : List Records) (pending : List Which) → IsSound records past pending (D.state folder.old) → is_clear edits.now pending ≡ true → Added edits.now records past pending (D.state folder.old) (D.state folder.new) result }
     ensures later { D.faults folder.old ≤ D.faults folder.new }
     ensures cause { OnErr result (Rose (D.faults folder.old) (D.faults folder.new)) }
