@@ -201,6 +201,21 @@ fn is_large<R: Files<File = File>>(
     !has_room(rt, path.as_str(), len as u64)
 }
 
+/// Whether the records of a change's parts have files of their own first.
+fn are_large<R: Files<File = File>>(
+    rt: &R,
+    alloc: Global,
+    folder: &str,
+    first: &RecordChange,
+    second: &Option<RecordChange>,
+) -> (bool, bool) {
+    let is_second_large = match second {
+        Some(second) => is_large(rt, alloc, folder, second),
+        None => false,
+    };
+    (is_large(rt, alloc, folder, first), is_second_large)
+}
+
 impl<R: Files<File = File> + AllocGlobal + Eprint + Clone + Drop> LoadedFolder<R> {
     /// Makes a change, or leaves the records as they were, or is in doubt.
     fn apply(
@@ -213,14 +228,7 @@ impl<R: Files<File = File> + AllocGlobal + Eprint + Clone + Drop> LoadedFolder<R
         if self.syncs.group_flush().is_in_doubt() {
             return Err(Failed);
         }
-        let alloc = rt.alloc();
-        let folder = self.front.as_str();
-        let is_second_large = match second {
-            Some(second) => is_large(rt, alloc, folder, second),
-            None => false,
-        };
-        let are_large = (is_large(rt, alloc, folder, first), is_second_large);
-        let made = apply_change(&mut self.store, head, first, second, are_large);
+        let made = self.make(rt, head, first, second);
         self.syncs.group_flush().note_given();
         match made {
             Ok(()) => Ok(()),
@@ -230,6 +238,28 @@ impl<R: Files<File = File> + AllocGlobal + Eprint + Clone + Drop> LoadedFolder<R
             }
             Err(Unfinished::Failed | Unfinished::Memory) => Err(Failed),
         }
+    }
+
+    /// Makes a change, or says why it wasn't made. One for which no new file finds room is made without one, if that
+    /// is no longer wanted: as the log was carried out the record's file may have got the room of a longer content.
+    fn make(
+        &mut self,
+        rt: &R,
+        head: Head,
+        first: &RecordChange,
+        second: &Option<RecordChange>,
+    ) -> Result<(), Unfinished> {
+        let alloc = rt.alloc();
+        let wanted = are_large(rt, alloc, self.front.as_str(), first, second);
+        match apply_change(&mut self.store, head, first, second, wanted) {
+            Err(Unfinished::Failed) => {}
+            made => return made,
+        }
+        let behind = are_large(rt, alloc, self.front.as_str(), first, second);
+        if behind.0 == wanted.0 && behind.1 == wanted.1 {
+            return Err(Unfinished::Failed);
+        }
+        apply_change(&mut self.store, head, first, second, behind)
     }
 
     /// The log is carried out, and nothing but records' files is left. Where memory runs out the log stays,
