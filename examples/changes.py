@@ -7,8 +7,8 @@ from peer import Refused
 DIRECTORY = "directory"
 IO = 5
 FILES, DIRECTORIES = 14, 3
-# a content of more bytes is written in a file of its own first
-FEW = 32 << 10
+# a content of at most so many bytes goes in the place of a longer one though no room is left
+FEW = 120 << 10
 
 
 def shown(content):
@@ -109,7 +109,7 @@ class Tree:
     def needs_no_room(self, change):
         """Whether a change needs no room: it takes something away, or stores few bytes in place of more."""
         kind, path, more = change
-        return kind in ("remove", "rmdir") or kind == "store" and len(more) < min(FEW, self.sizes[path] + 1)
+        return kind in ("remove", "rmdir") or kind == "store" and len(more) <= min(FEW, self.sizes[path])
 
     def make(self, it, change):
         """Makes a change, or is told that the store can't keep it; whether it was made."""

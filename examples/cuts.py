@@ -11,7 +11,7 @@ import power
 import runs
 from changes import Tree
 from records import tree_in
-from runs import Server, Skipped, same
+from runs import Server, Skipped, free_ports, same
 
 
 def check(folder):
@@ -113,10 +113,11 @@ def put_folder(at, files):
             it.write(given)
 
 
-def loaded(at):
-    """The tree that a server of a folder loads and leaves."""
+def loaded(at, files, port):
+    """The tree that a server of a folder with these files loads and leaves."""
+    put_folder(at, files)
     is_whole(at)
-    with Server(at, sessions=1) as server:
+    with Server(at, sessions=1, port=port) as server:
         it = server.session()
         it.null()
         it.close()
@@ -146,24 +147,26 @@ class Cuts:
         os.mkdir(f"{self.top}/store")
         return f"{self.top}/store"
 
-    def tree(self, files, is_told):
-        """The tree that these files load as, looked at once whatever is there of the reserve. Once anything was told the
-        server's term is noted there."""
-        if is_told and files.get(b".term") != b"1\n":
-            raise AssertionError(f"a cut leaves the term {files.get(b'.term')}")
-        self.count += 1
-        key = hash(tuple(sorted(it for it in files.items() if not it[0].startswith(b"reserve"))))
-        if key not in self.seen:
-            put_folder(f"{self.top}/left", files)
-            self.seen[key] = loaded(f"{self.top}/left")
-        return self.seen[key]
+    def trees(self, folders, is_told):
+        """The trees that these folders load as, each looked at once whatever is there of the reserve. Once anything was
+        told the server's term is noted there."""
+        keys = []
+        for files in folders:
+            if is_told and files.get(b".term") != b"1\n":
+                raise AssertionError(f"a cut leaves the term {files.get(b'.term')}")
+            keys.append(hash(tuple(sorted(it for it in files.items() if not it[0].startswith(b"reserve")))))
+        self.count += len(keys)
+        new = {key: files for key, files in zip(keys, folders) if key not in self.seen}
+        places = [f"{self.top}/left{at}" for at in range(len(new))]
+        with ThreadPoolExecutor(8) as pool:
+            self.seen.update(zip(new, pool.map(loaded, places, new.values(), free_ports(len(new)))))
+        return [self.seen[key] for key in keys]
 
     def look(self, sessions, points, least):
         """At each of these points each folder has what each session was told, and no half of what it asked for next."""
         for told, folders in points:
             xids = told + [set()] * (len(sessions) - len(told))
-            for files in folders:
-                tree = self.tree(files, any(told))
+            for tree in self.trees(folders, any(told)):
                 if not all(it.allows(tree, of) for it, of in zip(sessions, xids)):
                     raise AssertionError(f"a cut after {[it.told(of) for it, of in zip(sessions, xids)]} changes leaves {sorted(tree)[:12]}")
         if self.count < least:

@@ -232,18 +232,19 @@ def rename(names, step):
 
 def left(trace, chance, way):
     """What a cut leaves now: of what wasn't flushed nothing, all, or any part."""
-    share = {"nothing": 0, "all": 1, "names": 0, "bytes": 1}.get(way, 0.5)
+    share = {"nothing": 0, "all": 1, "names": 0, "bytes": 1, "cuts": 0}.get(way, 0.5)
     names = dict(trace.sure_names)
     for step in trace.pending_names:
         if chance.random() < {"names": 1, "bytes": 0}.get(way, share):
             rename(names, step)
-    return {name: bytes_left(inode, chance, share) for name, inode in names.items()}
+    return {name: bytes_left(inode, chance, share, way == "cuts") for name, inode in names.items()}
 
 
-def bytes_left(inode, chance, share):
+def bytes_left(inode, chance, share, is_cut):
+    """What is left of a file's bytes; where it is cut each shortening is done, whatever else is."""
     held = bytearray(inode.sure)
     for step in inode.pending:
-        if chance.random() < share:
+        if is_cut and step[0] == "cut" or chance.random() < share:
             torn = 0 < share < 1 and step[0] == "write" and chance.random() < 0.5
             low, high = step[1] // SECTOR, (step[1] + len(step[2]) + SECTOR - 1) // SECTOR
             apply(held, step, [it for it in range(low, high) if chance.random() < 0.5], whole=not torn)
@@ -290,5 +291,5 @@ def points(path, folder, samples, chance, before=None, wanted=lambda trace: True
             if answer == 0:
                 trace.flushed(fd, marks)
         elif is_end and trace.take(call, text, answer) and wanted(trace):
-            ways = WAYS + ["any"] * max(0, samples - len(WAYS))
+            ways = [*WAYS, *(["cuts"] if is_shortened(trace) else []), *["any"] * samples]
             yield trace.told(), [left(trace, chance, way) for way in ways[:samples]]

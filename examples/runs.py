@@ -18,10 +18,19 @@ TOP = os.path.dirname(os.path.dirname(os.path.abspath(__file__)))
 PROGRAM = None
 
 
-def free_port():
-    with socket.socket() as it:
+def free_ports(count):
+    """So many ports that are free, no two the same."""
+    held = [socket.socket() for _ in range(count)]
+    for it in held:
         it.bind(("127.0.0.1", 0))
-        return it.getsockname()[1]
+    ports = [it.getsockname()[1] for it in held]
+    for it in held:
+        it.close()
+    return ports
+
+
+def free_port():
+    return free_ports(1)[0]
 
 
 def listens(port):
