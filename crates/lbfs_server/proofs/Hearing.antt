@@ -12,7 +12,8 @@ use Rattle.turn_post.specs.declared.journaled.Journaled.{Ghosts}
 use Rattle.turn_post.specs.declared.post.Pass.{Pass}
 use Rattle.turn_post.specs.Passes.{seen}
 use Rattle.server_held.specs.declared.held.Went.{Went}
-use Rattle.lbfs_server.specs.Turned.{InTurn, IsHeard, AreHeard, HearsAll, HearsToEnd}
+use Rattle.server_turns.specs.Turned.{InTurn, IsHeard}
+use Rattle.lbfs_server.specs.Heard.{AreHeard, HearsAll, HearsToEnd}
 use Rattle.lbfs_server.proofs.Giving.{consumes_none, gave_more, gave_no_more}
 
 module _ {V E : Type 0} {g : Ghosts V E} (journal : V → List E) where

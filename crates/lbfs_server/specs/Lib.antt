@@ -1,4 +1,3 @@
 pub mod Ends
+pub mod Heard
 pub mod Serve
-pub mod Telling
-pub mod Turned

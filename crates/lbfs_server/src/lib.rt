@@ -1,13 +1,9 @@
-//! The server on its connections: the turns of its threads, and what each of them does. What they share is
-//! `server_held`.
+//! A server on its connections: the listener, the ticker and a session's threads, and what each of them does.
+//! What they share and the turns that they take are `server_turns`; `serve` puts all of it together, over the
+//! server of a store's tree.
 #![tactic(auto)]
 
-mod bells;
-pub mod gate;
 mod hints;
 pub mod listener;
-pub mod outgoing;
 pub mod serve;
 pub mod session;
-pub mod shared;
-mod work;

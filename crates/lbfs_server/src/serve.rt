@@ -11,15 +11,15 @@ ghost use Rattle.store.specs.declared.store.StoreError.TheVariants as store_erro
 ghost use Rattle.server_law.specs.Facts.{Holds};
 ghost use Rattle.turn_post.specs.Passes.{IsPassOf, seen};
 
-use crate::gate::Gate;
 use crate::hints::{content_ids, learn_all};
 use crate::listener::{Stop, serve_links};
-use crate::shared::Shared;
 use links::clock::Clock;
 use links::network::Network;
 use links::rest::Rest;
 use server_core::server::Server;
 use server_held::held::SharedServer;
+use server_turns::gate::Gate;
+use server_turns::shared::Shared;
 use std::alloc::{AllocFailed, Global};
 use std::sync::Wait;
 use std::thread::Threads;

@@ -1,9 +1,9 @@
 //! A gate that lets turns begin in the order that a row names; behind the last of these all may.
 
 use crate::trial::Trial;
-use lbfs_server::gate::{Gate, Who};
 use row_text::out::Out;
 use row_text::text::number;
+use server_turns::gate::{Gate, Who};
 use std::alloc::Global;
 use std::sync::{Condvar, Mutex, MutexGuard, Wait};
 

@@ -1,7 +1,8 @@
 use Rattle.std.specs.Prelude.{Err}
 use Rattle.std.proofs.Common.{sym, ap, subst, arith}
 use Rattle.turn_post.specs.Passes.{seen}
-use Rattle.lbfs_server.specs.Turned.{IsHeard, HearsAll}
+use Rattle.server_turns.specs.Turned.{IsHeard}
+use Rattle.lbfs_server.specs.Heard.{HearsAll}
 use Rattle.lbfs_server.proofs.Following.{follows_self, follows_trans}
 use Rattle.lbfs_server.proofs.Giving.{Taken, taken_none, taken_more, taken_spoilt}
 use Rattle.lbfs_server.proofs.Hearing.{heard_between, hears_none, hears_more, hears_at_end, starved}

@@ -1,6 +1,6 @@
 use Rattle.std.proofs.Common.{◌≡◌, ◌≤◌}
 use Rattle.turn_post.specs.Passes.{Follows}
-use Rattle.lbfs_server.specs.Turned.{HearsAll}
+use Rattle.lbfs_server.specs.Heard.{HearsAll}
 use Rattle.lbfs_server.proofs.Giving.{Taken}
 use Rattle.lbfs_server.proofs.session.read_on.Given as goal
 

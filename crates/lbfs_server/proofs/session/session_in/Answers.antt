@@ -2,7 +2,7 @@ use Rattle.std.proofs.Common.{sym, subst}
 use Rattle.server_core.specs.declared.event.Event.TheVariants as event
 use Rattle.turn_post.specs.Passes.{seen}
 use Rattle.turn_post.proofs.lemmas.Fronts.{prefix_self}
-use Rattle.lbfs_server.specs.Turned.{HearsToEnd}
+use Rattle.lbfs_server.specs.Heard.{HearsToEnd}
 use Rattle.lbfs_server.proofs.Hearing.{turned_between, hears_then}
 use Rattle.lbfs_server.proofs.session.session_in.Goals as goal
 

@@ -1,6 +1,6 @@
 use Rattle.std.proofs.Common.{◌≡◌, ◌-◌, length}
 use Rattle.std.specs.List.{AllWithin}
-use Rattle.lbfs_server.proofs.shared.remove_link.Given as goal
+use Rattle.server_turns.proofs.shared.remove_link.Given as goal
 
 -- none that was looked at is the session's
 abbrev pub invariant-loop-at : goal.invariant-loop-at

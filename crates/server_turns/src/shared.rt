@@ -4,9 +4,9 @@
 
 ghost use Rattle.std.specs.Prelude.{◌≡◌, true, nat_le, ◌<◌, ◌^◌, [], ◌∷◌, length, All, Contains, OnOk, IfOk};
 ghost use Rattle.std.specs.List.Sorted.{IsPermutation};
-ghost use Rattle.lbfs_server.specs.Telling.{any_tells};
-ghost use Rattle.lbfs_server.specs.Turned.{InTurn, IsHeard};
-ghost use Rattle.lbfs_server.specs.declared.shared.SessionLink.{SessionLink};
+ghost use Rattle.server_turns.specs.Telling.{any_tells};
+ghost use Rattle.server_turns.specs.Turned.{InTurn, IsHeard};
+ghost use Rattle.server_turns.specs.declared.shared.SessionLink.{SessionLink};
 ghost use Rattle.server_core.specs.Step.{IsTimed};
 ghost use Rattle.server_law.specs.Growth.{MayAdd};
 ghost use Rattle.server_held.specs.Held.{server_waits};
@@ -36,7 +36,7 @@ use wire::message::{Body, Message};
 
 /// What the threads of a server share, and by what those are woken that have nothing to say.
 pub struct Shared<H: Turns, Y, G, L> {
-    pub(crate) post: Post<H>,
+    post: Post<H>,
     /// What makes the store sure, beside its turns.
     syncs: Y,
     /// Whether it couldn't once.
@@ -90,7 +90,7 @@ impl Drop for Prepared {
 
 impl Prepared {
     /// Whether the record is an answer.
-    pub(crate) fn answers(&self) -> bool {
+    pub fn answers(&self) -> bool {
         is_answer(&self.read)
     }
 
@@ -196,7 +196,7 @@ struct Settled {
 }
 
 /// A pending change is made, if it may be, and if the quiet is over.
-#[tactic(auto, using(crate::proofs::Following::adds_none))]
+#[tactic(auto, using(crate::proofs::Adding::adds_none))]
 fn settle_in<H: Turns>(held: &mut H, alloc: Global, quiet: u64, now: u64) -> Settled
     requires { now < 2 ^ 63 }
     ensures { MayAdd (H.journal held.old) (H.journal held.new) }

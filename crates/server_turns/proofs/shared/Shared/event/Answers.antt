@@ -1,7 +1,7 @@
 use Rattle.std.proofs.Common.{sym, subst}
 use mathlib.Core.List.{IsPrefix}
 use Rattle.turn_post.specs.Passes.{seen, value_of}
-use Rattle.lbfs_server.proofs.shared.Shared.event.Goals as goal
+use Rattle.server_turns.proofs.shared.Shared.event.Goals as goal
 
 pub returns-clause-did : goal.returns-clause-did
 returns-clause-did g c = record {

@@ -2,9 +2,9 @@ use Rattle.std.proofs.Common.{◌≡◌, List, ◌∷◌, ◌<◌, length, sym, 
 use Rattle.std.specs.List.Sorted.{IsPermutation}
 use Rattle.std.proofs.lemmas.List.Elements.{at_read}
 use Rattle.std.proofs.lemmas.List.Sorted.{IsPermutation-swap_remove}
-use Rattle.lbfs_server.specs.declared.shared.SessionLink.{SessionLink}
-use Rattle.lbfs_server.proofs.shared.remove_link.Goals as goal
-use Rattle.lbfs_server.proofs.shared.remove_link.Goals.{then-loop-at-test+else-index-session, else-loop-at-test}
+use Rattle.server_turns.specs.declared.shared.SessionLink.{SessionLink}
+use Rattle.server_turns.proofs.shared.remove_link.Goals as goal
+use Rattle.server_turns.proofs.shared.remove_link.Goals.{then-loop-at-test+else-index-session, else-loop-at-test}
 
 pub returns-then-at-len-clause-gone : goal.returns-then-at-len-clause-gone
 returns-then-at-len-clause-gone g c = λ one there same.

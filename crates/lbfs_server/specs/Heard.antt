@@ -1,4 +1,4 @@
--- What turns did, of which the passes of a thread tell. Another thread's turns may stand before, between and behind them.
+-- Which records of a link were heard, each in a turn. Other threads' turns may stand before, between and behind these.
 use Rattle.std.specs.Prelude.{◌≡◌, ℕ, List, [], ◌∷◌, Option}
 use Rattle.std.specs.Io.KnownBytes.{Consumes}
 use mathlib.Core.List.{IsPrefix}
@@ -7,26 +7,14 @@ use Rattle.turn_post.specs.declared.journaled.Journaled.{Ghosts}
 use Rattle.turn_post.specs.declared.post.Pass.{Pass}
 use Rattle.turn_post.specs.Passes.{seen}
 use Rattle.server_held.specs.declared.held.Went.{Went}
+use Rattle.server_turns.specs.Turned.{IsHeard}
 use Rattle.lbfs_server.specs.Ends.{Gave}
 
-module _ {V E : Type 0} {g : Ghosts V E} (journal : V → List E) where
-  -- A turn did this to the value: its journal began with all that the pass before had seen, and the pass behind has seen all that it left.
-  pub record InTurn (did : V → V → Type 0) (before behind : Pass V E g) : Type 0 where
-    pub found : V
-    pub left : V
-    pub begins : IsPrefix (seen before) (journal found)
-    pub done : did found left
-    pub ends : IsPrefix (journal left) (seen behind)
-
 module _ {V E : Type 0} {g : Ghosts V E} (journal : V → List E) (hears : V → ℕ → List ℕ → ℕ → Went → V → Type 0) (session : ℕ) where
-  -- a record of the session was heard in a turn, at some reading
-  abbrev pub IsHeard : List ℕ → (before behind : Pass V E g) → Type 0
-  IsHeard bytes before behind = (now : ℕ) × (said : Went) × InTurn journal (λ found left. hears found session bytes now said left) before behind
-
   -- these records were heard, each in a turn behind that of the one before
   abbrev pub AreHeard : List (List ℕ) → (before behind : Pass V E g) → Type 0
   AreHeard [] before behind = IsPrefix (seen before) (seen behind)
-  AreHeard (bytes ∷ later) before behind = (between : Pass V E g) × IsHeard bytes before between × AreHeard later between behind
+  AreHeard (bytes ∷ later) before behind = (between : Pass V E g) × IsHeard journal hears session bytes before between × AreHeard later between behind
 
   -- Of what was to come on a link some bytes were taken, and the records that stand in them were heard, in order; this is kept of the bytes.
   pub record HearsAll (left left' : Option (List ℕ)) (kept : Kept) (before behind : Pass V E g) : Type 0 where

@@ -1,6 +1,6 @@
 use Rattle.std.proofs.Common.{sym, subst}
 use Rattle.server_law.specs.Growth.{MayAdd}
-use Rattle.lbfs_server.proofs.shared.got_in.Goals as goal
+use Rattle.server_turns.proofs.shared.got_in.Goals as goal
 
 pub returns-clause-heard : goal.returns-clause-heard
 returns-clause-heard g c = λ is. (c.hear_in-heard.new.held, c.hear_in-heard.ensures.heard is, c.answer_in-answer.ensures)

@@ -2,7 +2,7 @@ use Rattle.std.proofs.Common.{sym, subst, ◌∙◌}
 use mathlib.Core.List.{IsPrefix}
 use Rattle.turn_post.specs.Passes.{seen, value_of}
 use Rattle.turn_post.proofs.lemmas.Fronts.{prefix_trans}
-use Rattle.lbfs_server.proofs.shared.Shared.got.Goals as goal
+use Rattle.server_turns.proofs.shared.Shared.got.Goals as goal
 
 pub returns-in-Some-clause-heard : goal.returns-in-Some-clause-heard
 returns-in-Some-clause-heard g c = λ is.

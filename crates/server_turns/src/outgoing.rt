@@ -3,7 +3,7 @@
 //! waits for nothing.
 
 ghost use Rattle.std.specs.Prelude.{◌≡◌, true, OnOk, IfOk};
-ghost use Rattle.lbfs_server.specs.Telling.{tells, any_tells};
+ghost use Rattle.server_turns.specs.Telling.{tells, any_tells};
 
 use hash_calls::message::Lb;
 use lb_base::source::Failed;
@@ -61,21 +61,21 @@ fn any_tells(messages: &[Message]) -> bool
 
 impl Taken {
     /// These messages, and whether more may follow.
-    pub fn new(messages: Vec<Message>, stands: bool) -> Taken
+    pub(crate) fn new(messages: Vec<Message>, stands: bool) -> Taken
         ensures { (result.messages ≡ messages) × (result.stands ≡ stands) }
     {
         Taken { messages, stands }
     }
 
     /// How many of the messages are calls, which the client is to answer.
-    pub(crate) fn calls(&self) -> u64 {
+    pub fn calls(&self) -> u64 {
         let calls = self.messages.iter().filter(|message| is_call(message));
         calls.count() as u64
     }
 
     /// Makes the store sure of all that was made before what is to be said was taken; where nothing tells of it,
     /// of nothing. `Failed` comes where the store is in doubt.
-    pub fn sync<W: Wait, Y: Syncs>(self, rt: &W, syncs: &Y) -> Result<Sure, Failed>
+    pub(crate) fn sync<W: Wait, Y: Syncs>(self, rt: &W, syncs: &Y) -> Result<Sure, Failed>
         ensures sure { OnOk result (any_tells self.messages.items ≡ true → Y.is_sure syncs.now) }
         ensures same { IfOk result (λ sure. (sure.messages ≡ self.messages) × (sure.stands ≡ self.stands)) }
     {
