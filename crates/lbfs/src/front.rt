@@ -11,7 +11,10 @@ use host::time::{HostClock, HostPause};
 use lb_base::streams::{StreamSink, StreamSource};
 use lbfs_shell::outside::Outside;
 use lbfs_shell::running::{ShellAsked, run_shell};
+use program_words::asked::StorePath;
 use program_words::front::ShellOptions;
+use shell_words::local::LocalPath;
+use std::alloc::{AllocError, Global};
 use std::process;
 use std::process::ExitCode;
 use std::sync::atomic::AtomicU64;
@@ -31,6 +34,14 @@ pub(crate) fn run_front<H: Threads + Wait + Sync>(
     ExitCode::from(end.code())
 }
 
+/// The path of the cache file, where there is one.
+fn cache_path(alloc: Global, cache: &Option<StorePath>) -> Result<Option<LocalPath>, AllocError> {
+    match cache {
+        Some(path) => Ok(Some(LocalPath::copy_of(alloc, path.as_str())?)),
+        None => Ok(None),
+    }
+}
+
 /// Runs a shell over the outside of this machine; the bytes that go over its links are counted there.
 fn run_over<H: Threads + Wait + Sync>(
     handle: &H,
@@ -41,9 +52,13 @@ fn run_over<H: Threads + Wait + Sync>(
     let ShellOptions {
         port,
         links,
+        cache,
         quiet,
         command,
     } = options;
+    let Ok(cache) = cache_path(rt.alloc(), &cache) else {
+        return ShellEnd::Memory;
+    };
     let out = Outside {
         screen: HostScreen::new(rt.stderr(), rt.stdin()),
         folders: HostFolders::new(rt, process::id(rt.process())),
@@ -53,6 +68,7 @@ fn run_over<H: Threads + Wait + Sync>(
     };
     let asked = ShellAsked {
         links,
+        cache,
         quiet,
         command,
     };

@@ -18,16 +18,18 @@ use links::clock::Clock;
 use links::rest::Rest;
 use shell_commands::shell::{Shell, Went, mistaken};
 use shell_link::session::Session;
+use shell_walks::caching::{load, save};
 use shell_walks::dials::Dials;
-use shell_walks::folder::{Folder, Folders};
+use shell_walks::folder::{Folder, Folders, LocalFault};
 use shell_walks::remote::Remote;
 use shell_walks::screen::Screen;
 use shell_walks::tasks::Task;
-use shell_walks::telling::{mistake_words, note_line};
+use shell_walks::telling::{fault_words, mistake_words, note_line};
 use shell_words::command::{Line, Verb, verb_of};
 use shell_words::local::LocalPath;
 use shell_words::mistake::{Mistake, ReadError};
 use shell_words::path::copy_of;
+use shell_words::quoting::quoted;
 use shell_words::words::words_of;
 use std::alloc::{AllocError, Global};
 use std::sync::Wait;
@@ -38,6 +40,8 @@ use std::thread::Threads;
 pub struct ShellAsked {
     /// How many connections there may be at once.
     pub links: u32,
+    /// The cache file, where there is one.
+    pub cache: Option<LocalPath>,
     /// Whether neither how far a command is nor what it came to is said.
     pub quiet: bool,
     /// The words of the one command; none where lines are read.
@@ -471,6 +475,56 @@ where
     }
 }
 
+/// What is wrong with the cache file is said.
+fn say_fault<P: Screen>(alloc: Global, screen: &P, name: &str, fault: Option<LocalFault>) {
+    if let Some(fault) = fault {
+        if let Ok(about) = quoted(alloc, name.as_bytes()) {
+            if let Ok(note) = note_line(alloc, about.as_slice(), fault_words(fault)) {
+                screen.say(note.as_slice());
+            }
+        }
+    }
+}
+
+/// The cache file is read, where there is one.
+fn load_cache<P: Screen, R: Remote, F: Folder>(
+    alloc: Global,
+    screen: &P,
+    asked: &ShellAsked,
+    seat: &mut Seat<R, F>,
+) {
+    if let Some(path) = &asked.cache {
+        let name = path.as_str();
+        let fault = load(alloc, &mut seat.remote, &mut seat.folder, name);
+        // Before the first shell has written it there is none.
+        if !matches!(fault, Some(LocalFault::Missing)) {
+            say_fault(alloc, screen, name, fault);
+        }
+    }
+}
+
+/// Whether a shell did all lines that it was given, as it could.
+fn is_through(end: ShellEnd) -> bool {
+    matches!(end, ShellEnd::Done | ShellEnd::Undone)
+}
+
+/// The cache file is written, where there is one, behind the last line.
+fn save_cache<P: Screen, R: Remote, F: Folder>(
+    alloc: Global,
+    screen: &P,
+    asked: &ShellAsked,
+    seat: &mut Seat<R, F>,
+    end: ShellEnd,
+) {
+    if let Some(path) = &asked.cache {
+        if is_through(end) {
+            let name = path.as_str();
+            let fault = save(alloc, &seat.remote, &mut seat.folder, name);
+            say_fault(alloc, screen, name, fault);
+        }
+    }
+}
+
 /// Runs the one command. `help` wants no server.
 fn run_one<
     W: Threads + Wait + Sync,
@@ -502,7 +556,12 @@ where
         };
     }
     match seated(alloc, out) {
-        Ok(mut seat) => run_once(rt, alloc, out, asked, &mut seat, sink, line),
+        Ok(mut seat) => {
+            load_cache(alloc, &out.screen, asked, &mut seat);
+            let end = run_once(rt, alloc, out, asked, &mut seat, sink, line);
+            save_cache(alloc, &out.screen, asked, &mut seat, end);
+            end
+        }
         Err(end) => end,
     }
 }
@@ -532,7 +591,12 @@ where
     ensures later { (S.faults source.old ≤ S.faults source.new) × (K.faults sink.old ≤ K.faults sink.new) }
 {
     match seated(alloc, out) {
-        Ok(mut seat) => run_lines(rt, alloc, out, asked, &mut seat, source, sink),
+        Ok(mut seat) => {
+            load_cache(alloc, &out.screen, asked, &mut seat);
+            let end = run_lines(rt, alloc, out, asked, &mut seat, source, sink);
+            save_cache(alloc, &out.screen, asked, &mut seat, end);
+            end
+        }
         Err(end) => end,
     }
 }

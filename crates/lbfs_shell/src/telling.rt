@@ -1,7 +1,8 @@
 //! The lines that say how far a command is, and what it came to: `specs/Telling.antt`.
 
 ghost use Rattle.std.specs.Prelude.{◌≡◌, ◌++◌, IfOk, OnOk, codes, decimal};
-ghost use Rattle.lbfs_shell.specs.Telling.{count_text, big_text, middle_text, size_text, end_line, rate_text, left_of, left_text, files_text, line_part, pace_text, progress_line, left_out_text, prompt_text, number_text, line_text};
+ghost use Rattle.lbfs_shell.specs.Telling.{count_text, big_text, middle_text, size_text, end_line, rate_text, left_of, left_text, files_text, line_part, pace_text, progress_line, left_out_text};
+ghost use Rattle.lbfs_shell.specs.Telling.{prompt_text, number_text, line_text};
 
 use crate::tally::Tally;
 use lb_base::items::{Bytes, Items, Name};

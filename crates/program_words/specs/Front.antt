@@ -35,7 +35,7 @@ abbrev pub shell_of : List Row → Option Front
 shell_of rows =
     given 1 PORT_MOST (codes "port") rows >>= λ p.
     given_or 1 LINKS_MOST LINKS (codes "links") rows >>= λ n.
-    Some (front.Shell (record { port = p; links = n; quiet = is_set (first_of (codes "quiet") rows); command = values_of (codes "command") rows }))
+    Some (front.Shell (record { port = p; links = n; cache = first_of (codes "cache") rows; quiet = is_set (first_of (codes "quiet") rows); command = values_of (codes "command") rows }))
 
 abbrev pub share_of : List Row → Option Front
 share_of rows =

@@ -9,7 +9,7 @@ abbrev pub rest : Text → Rule
 rest name = record (new_rule name) { action = Some Append; trailing_var_arg = true }
 
 abbrev pub shell : App
-shell = with_rule (with_rule (with_rule (with_rule (new_app (codes "shell")) (required (codes "port"))) (optional (codes "links"))) (flag (codes "quiet"))) (rest (codes "command"))
+shell = with_rule (with_rule (with_rule (with_rule (with_rule (new_app (codes "shell")) (required (codes "port"))) (optional (codes "links"))) (optional (codes "cache"))) (flag (codes "quiet"))) (rest (codes "command"))
 
 abbrev pub share : App
 share = with_rule (with_rule (with_rule (with_rule (new_app (codes "share")) (placed (codes "dir"))) (optional (codes "port"))) (optional (codes "term"))) (flag (codes "unsynced"))

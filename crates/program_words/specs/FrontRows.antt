@@ -21,7 +21,7 @@ abbrev said : List (List ℕ) → List (Option Front)
 said lines = map (λ line. front_of (words_of line)) lines
 
 abbrev shell : (port links : ℕ) → (quiet : Bool) → List (List ℕ) → Option Front
-shell p n q command = Some (fronts.Shell (record { port = p; links = n; quiet = q; command = command }))
+shell p n q command = Some (fronts.Shell (record { port = p; links = n; cache = None; quiet = q; command = command }))
 
 abbrev share : (store : List ℕ) → (port term : ℕ) → Option Front
 share d p t = Some (fronts.Share (record { store = d; port = p; term = t; unsynced = false }))
@@ -38,6 +38,13 @@ plain = refl
 commands : said (codes "shell --port 7000 put -r a b" ∷ codes "shell --quiet --links=2 --port=1 ls -l" ∷ codes "shell --port 7 sync --delete a --port" ∷ codes "shell --port 7 -- ls" ∷ []) ≡ (shell 7000 8 false (words_of (codes "put -r a b")) ∷ shell 1 2 true (words_of (codes "ls -l")) ∷ shell 7 8 false (words_of (codes "sync --delete a --port")) ∷ shell 7 8 false (words_of (codes "ls")) ∷ [])
 unfolding clap_on_literals front front_of
 commands = refl
+
+abbrev cached : (cache : List ℕ) → List (List ℕ) → Option Front
+cached name command = Some (fronts.Shell (record { port = 7; links = 8; cache = Some name; quiet = false; command = command }))
+
+caches : said (codes "shell --port 7 --cache kept" ∷ codes "shell --cache=d/kept --port 7 ls --cache x" ∷ codes "shell --port 7 --cache" ∷ codes "shell --port 7 --cache a --cache a" ∷ []) ≡ (cached (codes "kept") [] ∷ cached (codes "d/kept") (words_of (codes "ls --cache x")) ∷ None ∷ None ∷ [])
+unfolding clap_on_literals front front_of
+caches = refl
 
 shares : said (codes "share --port 1 --term=5 d/e" ∷ codes "share d --term 3600000 --port=65535" ∷ codes "share -- -d" ∷ codes "share --unsynced d" ∷ codes "share d --unsynced" ∷ []) ≡ (share (codes "d/e") 1 5 ∷ share (codes "d") 65535 3600000 ∷ share (codes "-d") 7000 30000 ∷ hasty (codes "d") ∷ hasty (codes "d") ∷ [])
 unfolding clap_on_literals front front_of

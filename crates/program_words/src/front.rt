@@ -9,7 +9,7 @@ ghost use Rattle.program_words.specs.Front.{given_or, values_of, shell_of, share
 
 use crate::asked::{PORT_MOST, StorePath};
 use crate::front_line::front;
-use crate::words::{first, given, is_set};
+use crate::words::{cache_of, first, given, is_set};
 use clap::ArgMatches;
 use clap::error::ErrorKind;
 use command_text::fields::number_within;
@@ -36,6 +36,8 @@ pub struct ShellOptions {
     pub port: u16,
     /// `--links`: how many connections it uses at once.
     pub links: u32,
+    /// `--cache`: the cache file, where there is one.
+    pub cache: Option<StorePath>,
     /// `--quiet`: it doesn't say how far a command is, nor what it came to.
     pub quiet: bool,
     /// The words of its one command; none where it reads lines.
@@ -101,6 +103,7 @@ fn shell_of(alloc: Global, matches: &ArgMatches) -> Result<Option<Front>, AllocE
     ensures { IfOk result (λ front. front ≡ shell_of (rows_of (found_of matches.now))) }
 {
     let command = values_of(alloc, "command", matches)?;
+    let cache = cache_of(alloc, matches)?;
     match (
         given(1, PORT_MOST, "port", matches),
         given_or(1, LINKS_MOST, LINKS, "links", matches),
@@ -108,6 +111,7 @@ fn shell_of(alloc: Global, matches: &ArgMatches) -> Result<Option<Front>, AllocE
         (Some(port), Some(links)) => Ok(Some(Front::Shell(ShellOptions {
             port: port as u16,
             links: links as u32,
+            cache,
             quiet: is_set("quiet", matches),
             command,
         }))),

@@ -25,6 +25,7 @@ fn shell_line<'a>(alloc: Global) -> Result<Command<'a>, AllocError>
 {
     let command = with(Ok(Command::new(alloc, "shell")), required(alloc, "port"));
     let command = with(command, optional(alloc, "links"));
+    let command = with(command, optional(alloc, "cache"));
     let command = with(command, flag(alloc, "quiet"));
     with(command, rest(alloc, "command"))
 }

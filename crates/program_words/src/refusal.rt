@@ -66,7 +66,7 @@ fn uses() -> [Use; 10] {
         ),
         using(
             "shell",
-            "shell --port P [--links N] [--quiet] [COMMAND ..]",
+            "shell --port P [--links N] [--cache NAME] [--quiet] [COMMAND ..]",
             "runs a command, or what is typed, on a served folder",
         ),
     ]

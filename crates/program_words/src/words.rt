@@ -147,7 +147,7 @@ fn serve_of(alloc: Global, matches: &ArgMatches) -> Result<Option<Asked>, AllocE
 }
 
 /// The cache file that was given, if one was.
-fn cache_of(alloc: Global, matches: &ArgMatches) -> Result<Option<StorePath>, AllocError>
+pub(crate) fn cache_of(alloc: Global, matches: &ArgMatches) -> Result<Option<StorePath>, AllocError>
     ensures { IfOk result (λ path. path ≡ first_of (codes "cache") (rows_of (found_of matches.now))) }
 {
     match first("cache", matches) {

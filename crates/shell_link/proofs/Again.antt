@@ -1,6 +1,8 @@
 -- A command that is asked on a new connection, or once more.
 use Rattle.std.proofs.Common.{◌≡◌, Bool, true, sym, subst, ap, ◌∙◌}
 use Rattle.command_text.specs.declared.command.Command.{Command}
+use Rattle.limits.specs.declared.TheConstants.{FILE_MOST}
+use Rattle.client_state.specs.Bounding.{kept_within}
 use Rattle.client_state.specs.Ending.{joined}
 use Rattle.client_state.specs.State.{State}
 use Rattle.shell_walks.specs.declared.remote.Answer.{Answer}
@@ -27,5 +29,5 @@ pub repeated : (old mid new : State) (k c : Command) (b a : Answer) → k ≡ c 
 repeated old mid new k c b a e r first more = of_copy old new k c a e (more old (subst (λ (x : Command). rereads x ≡ true) (sym e) r) (of_copy old mid c k b (sym e) first))
 
 -- what may have been learned before
-pub hinted : (old mid new : State) (c : Command) (b a : Answer) (r : Bool) → MayLearn old mid → Asks mid c b new → r ≡ rereads c → a ≡ said_of r b → AsksHinted old c a new
-hinted old mid new c b a r l k e s = record { hinted = mid; hints = l; heard = b; asks = k; told = s ∙ ap (λ (x : Bool). said_of x b) e }
+pub hinted : (old fewer mid new : State) (c : Command) (b a : Answer) (r : Bool) → fewer ≡ kept_within FILE_MOST old → MayLearn fewer mid → Asks mid c b new → r ≡ rereads c → a ≡ said_of r b → AsksHinted old c a new
+hinted old fewer mid new c b a r f l k e s = record { hinted = mid; hints = subst (λ (x : State). MayLearn x mid) f l; heard = b; asks = k; told = s ∙ ap (λ (x : Bool). said_of x b) e }

@@ -10,7 +10,8 @@ use Rattle.xdr_codec.specs.Status.{status_number}
 use Rattle.xdr_codec.specs.declared.attr.Kind.{Kind}
 use Rattle.xdr_codec.specs.declared.attr.Kind.TheVariants as kind
 use Rattle.client_state.specs.Ending.{cut, joined}
-use Rattle.client_state.specs.Hints.{Learns, Offers}
+use Rattle.client_state.specs.Bounding.{kept_within}
+use Rattle.client_state.specs.Hints.{Learns, Offers, Warms}
 use Rattle.client_state.specs.Noting.{noted}
 use Rattle.client_state.specs.State.{State}
 use Rattle.client_state.specs.declared.noting.Granted.{Granted}
@@ -20,6 +21,8 @@ use Rattle.client_state.specs.declared.step.ClientStep.{ClientStep}
 use Rattle.client_state.specs.declared.step.Ended.{Ended}
 use Rattle.client_state.specs.declared.step.Outcome.{Outcome}
 use Rattle.client_state.specs.declared.step.Outcome.TheVariants as outcome
+use Rattle.cache_file.specs.Items.{items}
+use Rattle.limits.specs.declared.TheConstants.{FILE_MOST}
 use Rattle.lbfs_client.specs.Client.{Takes, Hears}
 use Rattle.shell_link.specs.Hearing.{nothing_heard, Heeds, listed_as}
 use Rattle.shell_link.specs.declared.hearing.Heard.{Heard}
@@ -131,6 +134,11 @@ pub data MayLearn (s : State) : State → Type 0 where
   nothing_learned : (t : State) → t ≡ s → MayLearn s t
   learned : (file : ℕ) (left_out : Bool) (t : State) → Learns s file left_out t → MayLearn s t
 
+-- the items of a cache file are the client's; or memory was wanting, and nothing is
+abbrev pub MayWarm : State → List ℕ → (done : Bool) → State → Type 0
+MayWarm s bytes true t = (left_out : Bool) × Warms s (items bytes) left_out t
+MayWarm s bytes false t = t ≡ s
+
 -- bytes are offered to the client, or nothing is
 pub data MayOffer (s : State) (bytes : List ℕ) : State → Type 0 where
   nothing_offered : (t : State) → t ≡ s → MayOffer s bytes t
@@ -144,10 +152,10 @@ said_if false a = a
 abbrev pub said_of : (changes_nothing : Bool) → Answer → Answer
 said_of b a = said_if (b && is_lost a) a
 
--- a command, and before it what may be learned of the file that was closed last
+-- a command, and before it what is kept is no more than one file may have, and the file that was closed last may be learned
 pub record AsksHinted (old : State) (c : Command) (a : Answer) (new : State) : Type 0 where
   pub hinted : State
-  pub hints : MayLearn old hinted
+  pub hints : MayLearn (kept_within FILE_MOST old) hinted
   pub heard : Answer
   pub asks : Asks hinted c heard new
   pub told : a ≡ said_of (rereads c) heard

@@ -2,11 +2,13 @@
 
 ghost use Rattle.std.specs.Prelude.{◌≡◌, ◌≤◌, true, false, None, IfOk, length};
 ghost use Rattle.limits.specs.declared.TheConstants.{FILE_MOST};
+ghost use Rattle.cache_file.specs.Items.{spelled};
+ghost use Rattle.cache_file.specs.Saved.{saved};
 ghost use Rattle.client_state.specs.State.{State, start_with, local_bytes};
 ghost use Rattle.client_state.specs.Ending.{cut, joined};
 ghost use Rattle.wire.specs.declared.message.TheConstants.{LBFS_SPOKEN};
 ghost use Rattle.command_text.specs.declared.command.Command.{Command};
-ghost use Rattle.shell_link.specs.Asking.{answer_of, makes, told_of, kept, Sends, Runs, Once, Asks, AsksHinted, MayLearn, MayOffer, rereads, NotesNothing, Leaves};
+ghost use Rattle.shell_link.specs.Asking.{answer_of, makes, told_of, kept, Sends, Runs, Once, Asks, AsksHinted, MayLearn, MayOffer, MayWarm, rereads, NotesNothing, Leaves};
 ghost use Rattle.shell_link.specs.Hearing.{nothing_heard};
 ghost use Rattle.shell_link.specs.declared.session.TheConstants.{DRIFT};
 
@@ -16,6 +18,7 @@ use client_state::step::{ClientStep, Ended, Outcome};
 use command_text::command::Command;
 use lb_base::items::{Bytes, Items};
 use lbfs_client::farewell::farewell;
+use limits::FILE_MOST;
 use links::clock::Clock;
 use links::link::Link;
 use open_close::client::Client;
@@ -252,6 +255,19 @@ fn offer(alloc: Global, client: &mut Client, bytes: Bytes)
     }
 }
 
+/// The items of a cache file are the client's, where there is memory for them.
+fn warm(alloc: Global, client: &mut Client, bytes: &[u8]) -> bool
+    ensures { MayWarm client.old bytes.now result client.new }
+{
+    let Ok(items) = cache_file::load(alloc, bytes) else {
+        return false;
+    };
+    match client.warm(alloc, &items) {
+        Ok(_left_out) => true,
+        Err(_want) => false,
+    }
+}
+
 /// The file that a command closes.
 fn closed_by(command: &Command) -> Option<u64> {
     match command {
@@ -361,12 +377,17 @@ where
 
     ghost offers = { λ s bytes t. MayOffer s.client bytes t.client };
 
+    ghost warms = { λ s bytes done t. MayWarm s.client bytes done t.client };
+
+    ghost saves = { λ s bytes. bytes ≡ spelled (saved s.client.cache) };
+
     ghost farewells = { λ s t. Leaves s.client t.client };
 
     ghost content = { λ s file. local_bytes s.client.opened file };
 
     fn ask(&mut self, alloc: Global, command: Command) -> Answer {
         self.is_used = true;
+        self.client.keep_within(FILE_MOST);
         learn(alloc, &mut self.client, self.stored);
         self.stored = closed_by(&command);
         let changes_nothing = rereads(&command);
@@ -383,6 +404,14 @@ where
 
     fn offer(&mut self, alloc: Global, bytes: Bytes) {
         offer(alloc, &mut self.client, bytes);
+    }
+
+    fn warm(&mut self, alloc: Global, bytes: &[u8]) -> bool {
+        warm(alloc, &mut self.client, bytes)
+    }
+
+    fn kept(&self, alloc: Global) -> Result<Bytes, AllocError> {
+        cache_file::save(alloc, self.client.cache())
     }
 
     fn farewell(&mut self, alloc: Global) {

@@ -1,3 +1,4 @@
+pub mod Cached
 pub mod Going
 pub mod Listed
 pub mod Saying

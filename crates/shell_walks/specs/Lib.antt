@@ -1,4 +1,5 @@
 pub mod Asking
+pub mod Caching
 pub mod Fetching
 pub mod Removing
 pub mod Storing

@@ -7,6 +7,7 @@
 #![tactic(auto)]
 
 pub mod asking;
+pub mod caching;
 pub mod dials;
 pub mod fetching;
 pub mod folder;

@@ -1,13 +1,13 @@
 //! What a shell asks of its client: one command after the other, each done before the next.
 
-ghost use Rattle.std.specs.Prelude.{◌≡◌, ℕ, ◌≤◌, List, length};
+ghost use Rattle.std.specs.Prelude.{◌≡◌, ℕ, ◌≤◌, List, length, Bool, IfOk};
 ghost use Rattle.command_text.specs.declared.command.Command.{Command};
 ghost use Rattle.limits.specs.declared.TheConstants.{FILE_MOST};
 ghost use Rattle.shell_walks.specs.declared.remote.Answer.{Answer};
 
 use command_text::command::Command;
 use lb_base::items::{Bytes, Items, Name};
-use std::alloc::Global;
+use std::alloc::{AllocError, Global};
 
 /// Why a command wasn't done.
 #[derive(Clone, Copy)]
@@ -88,6 +88,12 @@ pub trait Remote {
     /// What an offer of bytes may leave.
     ghost offers: { Self → List ℕ → Self → Type 0 };
 
+    /// What the taking of a cache file's bytes may leave, by whether it was done.
+    ghost warms: { Self → List ℕ → Bool → Self → Type 0 };
+
+    /// Which bytes a cache file may be given.
+    ghost saves: { Self → List ℕ → Type 0 };
+
     /// What the giving up of its leases may leave.
     ghost farewells: { Self → Self → Type 0 };
 
@@ -104,6 +110,15 @@ pub trait Remote {
     fn offer(&mut self, alloc: Global, bytes: Bytes)
         requires { length bytes ≤ FILE_MOST }
         ensures { offers self.old bytes self.new };
+
+    /// What stands in a cache file with these bytes is the client's, so that a fetch doesn't bring it again: hints,
+    /// which nobody trusts. Whether there was memory for it.
+    fn warm(&mut self, alloc: Global, bytes: &[u8]) -> bool
+        ensures { warms self.old bytes.now result self.new };
+
+    /// The bytes of a cache file with what the client keeps. The one error is running out of memory.
+    fn kept(&self, alloc: Global) -> Result<Bytes, AllocError>
+        ensures { IfOk result (λ bytes. saves self.now bytes) };
 
     /// Gives up all leases that the server may think it has, since nobody answers a RECALL until the next command.
     /// Where it can't be told so, nothing comes of it.
