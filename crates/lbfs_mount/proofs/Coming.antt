@@ -41,6 +41,11 @@ gives_first old held new bytes line took first rest ended count = record {
   count = count ∙ took.count;
 }
 
+-- of known bytes none are taken
+pub consumes_none : (a : Option (List ℕ)) → Consumes a a []
+consumes_none None = tt
+consumes_none (Some bytes) = refl
+
 -- known bytes begin with some, and then with more
 pub consumes_more : (a b c : Option (List ℕ)) (xs ys : List ℕ) → Consumes a b xs → Consumes b c ys → Consumes a c (xs ++ ys)
 consumes_more None b c xs ys p q = tt

@@ -7,3 +7,4 @@ mod Hintings
 mod Cachings
 mod Courses
 mod Outlets
+mod HeardAll

@@ -18,14 +18,10 @@ use Rattle.lbfs_client.specs.declared.line.MountLine.{MountLine}
 use Rattle.lbfs_mount.specs.declared.mount_error.MountError.{MountError}
 use Rattle.lbfs_mount.specs.declared.mount_error.MountError.TheVariants as errors
 use Rattle.lbfs_mount.specs.Script.{Coming, nothing_yet, coming, MayFollow, Takes, Gives}
-use Rattle.lbfs_mount.proofs.Coming.{apart, consumes_more}
+use Rattle.lbfs_mount.proofs.Coming.{apart, consumes_more, consumes_none}
 use Rattle.lbfs_mount.specs.Mounts.{IsAnswer, TellsIf, is_skip, IsDone, Tells, TellsLine, Writes, WritesPart, Outside, Unjoined, Untold, WriteEnds, AnswerEnds, TextFails, TextEnds, Fails, Ends, written_as, read_end}
 
 -- ---- known bytes
-
-consumes_none : (a : Option (List ℕ)) → Consumes a a []
-consumes_none None = tt
-consumes_none (Some bytes) = refl
 
 pub appends_none : (a : Option (List ℕ)) → Appends a a []
 appends_none None = tt

@@ -23,7 +23,8 @@ impl AnswerLine {
 
     /// Its bytes.
     pub fn as_slice(&self) -> &[u8]
-        ensures { IsAnswer result.now }
+        ensures answer { IsAnswer result.now }
+        ensures text { result.now ≡ self.now.text }
     {
         self.text.as_slice()
     }

@@ -105,7 +105,11 @@ where
             let Dialled { link, twin, inbox } = dialled;
             let connection = turns.join(rt, link, clock.now());
             let shared = turns.shared();
-            let hear = move || hear_all(rt, shared, connection, twin, inbox, clock);
+            let hear = move || {
+                let mut twin = twin;
+                let mut inbox = inbox;
+                hear_all(rt, shared, connection, &mut twin, &mut inbox, clock);
+            };
             match scope.spawn(hear) {
                 Ok(_thread) => Ok(()),
                 Err(_refused) => Err(MountError::Memory),

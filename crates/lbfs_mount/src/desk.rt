@@ -169,7 +169,10 @@ impl<F: Files + Drop, L: Link + Drop> Desk<F, L> {
     fn pass_on(&mut self, alloc: Global, said: Result<Said, AllocError>, more: bool, now: u64)
         requires { IfOk said (λ s. IsTold s.line) }
         ensures sent { self.new.starved ≡ false → SendsOf self.old.most self.old.mounted said now self.new.mounted }
-        ensures out { self.new.starved ≡ false → SaysOutOf L.held L.faults self.old.most self.old.mounted said now self.new.mounted (outlet self.old.link self.old.waits self.old.line) (outlet self.new.link self.new.waits self.new.line) more }
+        ensures out { self.new.starved ≡ false
+            → SaysOutOf L.held L.faults self.old.most self.old.mounted said now self.new.mounted
+            (outlet self.old.link self.old.waits self.old.line)
+            (outlet self.new.link self.new.waits self.new.line) more }
         ensures fed { self.new.starved ≡ false → self.old.starved ≡ false }
         ensures number { (self.new.connection ≡ self.old.connection) × (self.new.most ≡ self.old.most) × (self.new.listed ≡ self.old.listed) }
     {
@@ -184,7 +187,10 @@ impl<F: Files + Drop, L: Link + Drop> Desk<F, L> {
     fn take_said(&mut self, alloc: Global, said: Said, more: bool, now: u64)
         requires { IsTold said.line }
         ensures sent { self.new.starved ≡ false → Sends self.old.most self.old.mounted said now self.new.mounted }
-        ensures out { self.new.starved ≡ false → SaysOut L.held L.faults self.old.most self.old.mounted said now self.new.mounted (outlet self.old.link self.old.waits self.old.line) (outlet self.new.link self.new.waits self.new.line) more }
+        ensures out { self.new.starved ≡ false
+            → SaysOut L.held L.faults self.old.most self.old.mounted said now self.new.mounted
+            (outlet self.old.link self.old.waits self.old.line)
+            (outlet self.new.link self.new.waits self.new.line) more }
         ensures fed { self.new.starved ≡ false → self.old.starved ≡ false }
         ensures number { (self.new.connection ≡ self.old.connection) × (self.new.most ≡ self.old.most) × (self.new.listed ≡ self.old.listed) }
     {
@@ -198,7 +204,10 @@ impl<F: Files + Drop, L: Link + Drop> Desk<F, L> {
     /// they wait.
     fn send_out(&mut self, alloc: Global, send: Items<Message>, more: bool, now: u64)
         ensures sent { self.new.starved ≡ false → GoesOut self.old.most self.old.mounted now self.new.mounted }
-        ensures out { self.new.starved ≡ false → SendsOut L.held L.faults self.old.most self.old.mounted now self.new.mounted (outlet self.old.link self.old.waits self.old.line) (outlet self.new.link self.new.waits self.new.line) (self.old.waits ++ send) more }
+        ensures out { self.new.starved ≡ false
+            → SendsOut L.held L.faults self.old.most self.old.mounted now self.new.mounted
+            (outlet self.old.link self.old.waits self.old.line)
+            (outlet self.new.link self.new.waits self.new.line) (self.old.waits ++ send) more }
         ensures fed { self.new.starved ≡ false → self.old.starved ≡ false }
         ensures number { (self.new.connection ≡ self.old.connection) × (self.new.most ≡ self.old.most) × (self.new.listed ≡ self.old.listed) }
     {
@@ -211,7 +220,10 @@ impl<F: Files + Drop, L: Link + Drop> Desk<F, L> {
     /// What waits goes out, or the link ends as it doesn't; where more records are there it waits on.
     fn send_waits(&mut self, alloc: Global, more: bool, now: u64)
         ensures sent { self.new.starved ≡ false → GoesOut self.old.most self.old.mounted now self.new.mounted }
-        ensures out { self.new.starved ≡ false → SendsOut L.held L.faults self.old.most self.old.mounted now self.new.mounted (outlet self.old.link self.old.waits self.old.line) (outlet self.new.link self.new.waits self.new.line) self.old.waits more }
+        ensures out { self.new.starved ≡ false
+            → SendsOut L.held L.faults self.old.most self.old.mounted now self.new.mounted
+            (outlet self.old.link self.old.waits self.old.line)
+            (outlet self.new.link self.new.waits self.new.line) self.old.waits more }
         ensures fed { self.new.starved ≡ false → self.old.starved ≡ false }
         ensures number { (self.new.connection ≡ self.old.connection) × (self.new.most ≡ self.old.most) × (self.new.listed ≡ self.old.listed) }
     {
@@ -255,7 +267,10 @@ impl<F: Files + Drop, L: Link + Drop> Desk<F, L> {
     pub(crate) fn take_line(&mut self) -> Result<AnswerLine, AllocError>
         ensures line { IfOk result (λ line. (self.old.line ≡ Some line) × (self.new.line ≡ None)) }
         ensures none { OnErr result ((self.old.starved ≡ true) ⊎ (self.old.line ≡ None)) }
-        ensures rest { (self.new.mounted ≡ self.old.mounted) × (self.new.starved ≡ self.old.starved) × (self.new.connection ≡ self.old.connection) × (self.new.most ≡ self.old.most) × (self.new.listed ≡ self.old.listed) }
+        ensures rest { (self.new.mounted ≡ self.old.mounted)
+            × (self.new.starved ≡ self.old.starved)
+            × (self.new.connection ≡ self.old.connection) × (self.new.most ≡ self.old.most)
+            × (self.new.listed ≡ self.old.listed) }
     {
         if self.starved {
             return Err(AllocError);
@@ -269,7 +284,11 @@ impl<F: Files + Drop, L: Link + Drop> Desk<F, L> {
     /// A line of the script begins. It answers whether a connection is to be joined for it.
     pub(crate) fn run(&mut self, alloc: Global, line: MountLine, now: u64) -> bool
         ensures turn { self.new.starved ≡ false → Turns self.old.most (λ m said. RunsHinted self.old.mounted line now m said) now self.new.mounted }
-        ensures out { self.new.starved ≡ false → TurnsOut L.held L.faults self.old.most (λ m said. RunsHinted self.old.mounted line now m said) now self.new.mounted (outlet self.old.link self.old.waits self.old.line) (outlet self.new.link self.new.waits self.new.line) (λ m. false) }
+        ensures out { self.new.starved ≡ false
+            → TurnsOut L.held L.faults self.old.most
+            (λ m said. RunsHinted self.old.mounted line now m said) now self.new.mounted
+            (outlet self.old.link self.old.waits self.old.line)
+            (outlet self.new.link self.new.waits self.new.line) (λ m. false) }
         ensures wants { result ≡ wants_link line self.old.mounted.client.linked }
         ensures listed { self.new.listed ≡ 0 }
         ensures fed { self.new.starved ≡ false → self.old.starved ≡ false }
@@ -296,7 +315,11 @@ impl<F: Files + Drop, L: Link + Drop> Desk<F, L> {
     /// A put that waits goes on, with what was found of its bytes ahead, if anything was.
     pub(crate) fn go_on(&mut self, alloc: Global, found: Option<CutBytes>, now: u64)
         ensures turn { self.new.starved ≡ false → Turns self.old.most (λ m said. Continues self.old.mounted now m said) now self.new.mounted }
-        ensures out { self.new.starved ≡ false → TurnsOut L.held L.faults self.old.most (λ m said. Continues self.old.mounted now m said) now self.new.mounted (outlet self.old.link self.old.waits self.old.line) (outlet self.new.link self.new.waits self.new.line) (λ m. false) }
+        ensures out { self.new.starved ≡ false
+            → TurnsOut L.held L.faults self.old.most
+            (λ m said. Continues self.old.mounted now m said) now self.new.mounted
+            (outlet self.old.link self.old.waits self.old.line)
+            (outlet self.new.link self.new.waits self.new.line) (λ m. false) }
         ensures fed { self.new.starved ≡ false → self.old.starved ≡ false }
         ensures number { (self.new.connection ≡ self.old.connection) × (self.new.most ≡ self.old.most) × (self.new.listed ≡ self.old.listed) }
     {
@@ -309,7 +332,11 @@ impl<F: Files + Drop, L: Link + Drop> Desk<F, L> {
     /// known by. What was to go out on the one before doesn't.
     pub(crate) fn join(&mut self, alloc: Global, link: L, now: u64) -> u64
         ensures turn { self.new.starved ≡ false → Turns self.old.most (λ m said. joined_step self.old.mounted ≡ (m, said)) now self.new.mounted }
-        ensures out { self.new.starved ≡ false → TurnsOut L.held L.faults self.old.most (λ m said. joined_step self.old.mounted ≡ (m, said)) now self.new.mounted (outlet (Some link) [] self.old.line) (outlet self.new.link self.new.waits self.new.line) (λ m. false) }
+        ensures out { self.new.starved ≡ false
+            → TurnsOut L.held L.faults self.old.most
+            (λ m said. joined_step self.old.mounted ≡ (m, said)) now self.new.mounted
+            (outlet (Some link) [] self.old.line)
+            (outlet self.new.link self.new.waits self.new.line) (λ m. false) }
         ensures listed { self.new.listed ≡ self.old.listed }
         ensures fed { self.new.starved ≡ false → self.old.starved ≡ false }
         ensures number { (result ≡ self.new.connection) × (self.new.connection ≡ min (self.old.connection + 1) (2 ^ 64 - 1)) × (self.new.most ≡ self.old.most) }
@@ -334,9 +361,15 @@ impl<F: Files + Drop, L: Link + Drop> Desk<F, L> {
         now: u64,
     ) -> bool
         ensures other { stands self.old.connection connection self.old.link self.old.starved ≡ false → self.new ≡ self.old }
-        ensures turn { ((self.new.mounted ≡ self.old.mounted) × (self.new.starved ≡ self.old.starved) × (self.new.listed ≡ self.old.listed)) ⊎ ((self.new.listed ≡ counted self.old.listed bytes.now) × (self.new.starved ≡ false → Hears self.old.most self.old.listed self.old.mounted bytes.now now self.new.mounted)) }
+        ensures turn { ((self.new.mounted ≡ self.old.mounted)
+            × (self.new.starved ≡ self.old.starved) × (self.new.listed ≡ self.old.listed)) ⊎
+            ((self.new.listed ≡ counted self.old.listed bytes.now)
+            × (self.new.starved ≡ false
+            → Hears self.old.most self.old.listed self.old.mounted bytes.now now self.new.mounted)) }
         ensures count { stands self.old.connection connection self.old.link self.old.starved ≡ true → self.new.listed ≡ counted self.old.listed bytes.now }
-        ensures out { stands self.old.connection connection self.old.link self.old.starved ≡ true → self.new.starved ≡ false → HearsOut L.held L.faults self.old.most self.old.listed self.old.mounted bytes.now now self.new.mounted (outlet self.old.link self.old.waits self.old.line) (outlet self.new.link self.new.waits self.new.line) more }
+        ensures out { stands self.old.connection connection self.old.link self.old.starved
+            ≡ true → self.new.starved ≡ false
+            → HearsOut L.held L.faults self.old.most self.old.listed self.old.mounted bytes.now now self.new.mounted (outlet self.old.link self.old.waits self.old.line) (outlet self.new.link self.new.waits self.new.line) more }
         ensures goes_on { result ≡ stands self.new.connection connection self.new.link self.new.starved }
         ensures fed { self.new.starved ≡ false → self.old.starved ≡ false }
         ensures number { (self.new.connection ≡ self.old.connection) × (self.new.most ≡ self.old.most) }
@@ -359,8 +392,15 @@ impl<F: Files + Drop, L: Link + Drop> Desk<F, L> {
     /// No more records come on a connection.
     pub(crate) fn stop(&mut self, alloc: Global, connection: u64, end: End, now: u64)
         ensures other { stands self.old.connection connection self.old.link self.old.starved ≡ false → self.new ≡ self.old }
-        ensures turn { ((self.new.mounted ≡ self.old.mounted) × (self.new.starved ≡ self.old.starved) × (self.new.listed ≡ self.old.listed)) ⊎ ((self.new.listed ≡ self.old.listed) × (self.new.starved ≡ false → Loses self.old.most self.old.mounted end now self.new.mounted)) }
-        ensures out { stands self.old.connection connection self.old.link self.old.starved ≡ true → self.new.starved ≡ false → LosesOut self.old.most self.old.mounted end now self.new.mounted (text_of self.old.line) (text_of self.new.line) }
+        ensures turn { ((self.new.mounted ≡ self.old.mounted)
+            × (self.new.starved ≡ self.old.starved) × (self.new.listed ≡ self.old.listed)) ⊎
+            ((self.new.listed ≡ self.old.listed)
+            × (self.new.starved ≡ false
+            → Loses self.old.most self.old.mounted end now self.new.mounted)) }
+        ensures out { stands self.old.connection connection self.old.link self.old.starved
+            ≡ true → self.new.starved ≡ false
+            → LosesOut self.old.most self.old.mounted end now self.new.mounted
+            (text_of self.old.line) (text_of self.new.line) }
         ensures link { stands self.old.connection connection self.old.link self.old.starved ≡ true → self.new.link ≡ None }
         ensures fed { self.new.starved ≡ false → self.old.starved ≡ false }
         ensures number { (self.new.connection ≡ self.old.connection) × (self.new.most ≡ self.old.most) }
@@ -375,7 +415,10 @@ impl<F: Files + Drop, L: Link + Drop> Desk<F, L> {
     pub(crate) fn leave(&mut self, alloc: Global) -> Left
         ensures out { LeavesOut L.held L.faults self.old.link self.old.waits result.given }
         ensures link { self.new.link ≡ None }
-        ensures rest { (self.new.mounted ≡ self.old.mounted) × (self.new.starved ≡ self.old.starved) × (self.new.connection ≡ self.old.connection) × (self.new.most ≡ self.old.most) × (self.new.listed ≡ self.old.listed) }
+        ensures rest { (self.new.mounted ≡ self.old.mounted)
+            × (self.new.starved ≡ self.old.starved)
+            × (self.new.connection ≡ self.old.connection) × (self.new.most ≡ self.old.most)
+            × (self.new.listed ≡ self.old.listed) }
     {
         let given = give_farewell(alloc, &mut self.link, &mut self.waits);
         close(&mut self.link);

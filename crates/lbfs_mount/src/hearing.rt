@@ -1,6 +1,8 @@
 //! The thread of a connection: it takes the records that come, each in a turn of its own. So what the
 //! server asks is answered also while no line runs. What is said of records that came at once goes out at
-//! once.
+//! once. `specs/Heard.antt` says which records are heard.
+
+ghost use Rattle.lbfs_mount.specs.Heard.{HearsTo};
 
 use crate::shared::Shared;
 use crate::turns::Turns;
@@ -14,17 +16,18 @@ pub(crate) fn hear_all<W: Wait, D: Turns + Drop, L: Link + Drop, C: Clock>(
     rt: &W,
     shared: &Shared<D>,
     connection: u64,
-    link: L,
-    inbox: Inbox,
+    link: &mut L,
+    inbox: &mut Inbox,
     clock: &C,
-) {
-    let mut link = link;
-    let mut inbox = inbox;
+)
+    ensures { HearsTo D.hears D.stops connection (L.left link.old) (L.left link.new) inbox.old inbox.new }
+{
     for _turn in rt.forever() {
-        match inbox.next(shared.alloc(), &mut link) {
+        match inbox.next(shared.alloc(), link) {
             Ok(record) => {
+                let bytes = record.as_slice();
                 let more = !inbox.is_empty();
-                let goes_on = shared.hear(rt, connection, record.as_slice(), more, clock.now());
+                let goes_on = shared.hear(rt, connection, bytes, more, clock.now());
                 drop(record);
                 if !goes_on {
                     return;
@@ -36,4 +39,5 @@ pub(crate) fn hear_all<W: Wait, D: Turns + Drop, L: Link + Drop, C: Clock>(
             }
         }
     }
+    unreachable!()
 }

@@ -3,6 +3,7 @@
 //! is known of the client once no thread shares it any more. Whose desk it is, is asked of it then.
 
 ghost use Rattle.std.specs.Prelude.{◌≡◌, ℕ, ◌==◌, ◌&&◌, not, true, false};
+ghost use Rattle.lbfs_mount.specs.Calls.{DeskGoesOn, DeskHears, DeskJoins, DeskLeaves, DeskRuns, DeskStops, DeskTakes};
 ghost use Rattle.lbfs_mount.specs.Course.{Begun, Course};
 
 use crate::answer_line::AnswerLine;
@@ -64,6 +65,20 @@ impl<F: Files + Drop, L: Link + Drop> KeptDesk<F, L> {
 impl<F: Files + Drop, L: Link + Drop> Turns for KeptDesk<F, L> {
     type L = L;
 
+    ghost takes = { λ old line new. DeskTakes old.desk line new.desk };
+
+    ghost runs = { λ old line now wants new. DeskRuns L.held L.faults old.desk line now wants new.desk };
+
+    ghost continues = { λ old now new. DeskGoesOn L.held L.faults old.desk now new.desk };
+
+    ghost joins = { λ old link now number new. DeskJoins L.held L.faults old.desk link now number new.desk };
+
+    ghost hears = { λ old connection bytes more now goes_on new. DeskHears L.held L.faults old.desk connection bytes more now goes_on new.desk };
+
+    ghost stops = { λ old connection end now new. DeskStops L.held L.faults old.desk connection end now new.desk };
+
+    ghost leaves = { λ old left new. DeskLeaves L.held L.faults old.desk left new.desk };
+
     fn has_news(&self) -> bool {
         self.desk.has_news()
     }
@@ -88,15 +103,8 @@ impl<F: Files + Drop, L: Link + Drop> Turns for KeptDesk<F, L> {
         self.desk.join(alloc, link, now)
     }
 
-    fn hear(
-        &mut self,
-        alloc: Global,
-        connection: u64,
-        record: &[u8],
-        more: bool,
-        now: u64,
-    ) -> bool {
-        self.desk.hear(alloc, connection, record, more, now)
+    fn hear(&mut self, alloc: Global, connection: u64, bytes: &[u8], more: bool, now: u64) -> bool {
+        self.desk.hear(alloc, connection, bytes, more, now)
     }
 
     fn stop(&mut self, alloc: Global, connection: u64, end: End, now: u64) {

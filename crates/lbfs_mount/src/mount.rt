@@ -48,14 +48,42 @@ fn run_shared<
 ) -> (Result<(), MountError>, S, K, Dialler<N, N::L>)
 where
     N::L: Drop + Send,
-    ensures ends { Ends (IsFaulty N.L.faults result.3.unpaired) (record { left = S.left script; reads = S.faults script; held = K.held sink; writes = K.faults sink; dials = N.faults dialler.net }) (record { left = S.left result.1; reads = S.faults result.1; held = K.held result.2; writes = K.faults result.2; dials = N.faults result.3.net }) result.0 }
+    ensures ends { Ends (IsFaulty N.L.faults result.3.unpaired)
+        (record {
+          left = S.left script;
+          reads = S.faults script;
+          held = K.held sink;
+          writes = K.faults sink;
+          dials = N.faults dialler.net;
+        })
+        (record {
+          left = S.left result.1;
+          reads = S.faults result.1;
+          held = K.held result.2;
+          writes = K.faults result.2;
+          dials = N.faults result.3.net;
+        }) result.0 }
     ensures later { (S.faults script ≤ S.faults result.1) × (K.faults sink ≤ K.faults result.2) }
 {
     thread::scope(
         thread::scope_env(),
         rt,
         move |scope| -> (Result<(), MountError>, S, K, Dialler<N, N::L>)
-            ensures ends { Ends (IsFaulty N.L.faults result.3.unpaired) (record { left = S.left script; reads = S.faults script; held = K.held sink; writes = K.faults sink; dials = N.faults dialler.net }) (record { left = S.left result.1; reads = S.faults result.1; held = K.held result.2; writes = K.faults result.2; dials = N.faults result.3.net }) result.0 }
+            ensures ends { Ends (IsFaulty N.L.faults result.3.unpaired)
+                (record {
+                  left = S.left script;
+                  reads = S.faults script;
+                  held = K.held sink;
+                  writes = K.faults sink;
+                  dials = N.faults dialler.net;
+                })
+                (record {
+                  left = S.left result.1;
+                  reads = S.faults result.1;
+                  held = K.held result.2;
+                  writes = K.faults result.2;
+                  dials = N.faults result.3.net;
+                }) result.0 }
             ensures later { (S.faults script ≤ S.faults result.1) × (K.faults sink ≤ K.faults result.2) }
         {
             let mut script = script;
@@ -137,7 +165,21 @@ where
     N::L: Drop + Send,
     requires { (host : Host) × (mounted ≡ nothing_done drift host) }
     ensures saved { OnOk result.0 (IfSome cache.entry (λ name. ∥ IsSaved drift keep name.now (record { files = F.files result.3; faults = F.faults result.3 }) ∥₁)) }
-    ensures ends { EndsAll (is_some cache.entry) (IsFaulty N.L.faults result.4.unpaired) (record { left = S.left script; reads = S.faults script; held = K.held sink; writes = K.faults sink; dials = N.faults dialler.net }) (record { left = S.left result.1; reads = S.faults result.1; held = K.held result.2; writes = K.faults result.2; dials = N.faults result.4.net }) result.0 }
+    ensures ends { EndsAll (is_some cache.entry) (IsFaulty N.L.faults result.4.unpaired)
+        (record {
+          left = S.left script;
+          reads = S.faults script;
+          held = K.held sink;
+          writes = K.faults sink;
+          dials = N.faults dialler.net;
+        })
+        (record {
+          left = S.left result.1;
+          reads = S.faults result.1;
+          held = K.held result.2;
+          writes = K.faults result.2;
+          dials = N.faults result.4.net;
+        }) result.0 }
     ensures later { (S.faults script ≤ S.faults result.1) × (K.faults sink ≤ K.faults result.2) }
 {
     let mut mounted = mounted;

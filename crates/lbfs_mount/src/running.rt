@@ -1,9 +1,12 @@
 //! The lines of a script, one by one: each is read, runs to its end, and is told before the next one
 //! is read. `specs/Mounts.antt` says what is written for them.
 
-ghost use Rattle.std.specs.Prelude.{◌≡◌, ℕ, ◌≤◌, IfErr};
+ghost use Rattle.std.specs.Prelude.{◌≡◌, ℕ, ◌≤◌, IfErr, IfOk, OnOk};
+ghost use Rattle.std.specs.Io.KnownBytes.{Appends};
 ghost use Rattle.lbfs_client.specs.Lines.{line_of};
+ghost use Rattle.lbfs_mount.specs.Heard.{Ran, RunsTold};
 ghost use Rattle.lbfs_mount.specs.Mounts.{AnswerEnds, Ends, IsFaulty, TextEnds, Unjoined, WriteEnds, read_end, written_as};
+ghost use Rattle.lbfs_mount.specs.declared.answer_line.AnswerLine.{AnswerLine};
 
 use crate::answer_line::AnswerLine;
 use crate::connecting::{Dialler, connect};
@@ -47,6 +50,7 @@ fn read_end(why: ReadError) -> MountError
 /// Writes the line of what ended.
 pub(crate) fn write_answer<K: Sink>(sink: &mut K, answer: &AnswerLine) -> Result<(), MountError>
     ensures ends { WriteEnds (K.held sink.old) (K.held sink.new) (K.faults sink.old) (K.faults sink.new) result }
+    ensures text { OnOk result (Appends (K.held sink.old) (K.held sink.new) answer.now.text) }
     ensures later { K.faults sink.old ≤ K.faults sink.new }
 {
     let given = give_all(sink, answer.as_slice());
@@ -84,6 +88,7 @@ fn run_line<
 ) -> Result<AnswerLine, MountError>
 where
     N::L: Drop + Send + 's,
+    ensures ran { IfOk result (λ answer. Ran D.runs D.takes line answer) }
     ensures why { IfErr result (λ e. Unjoined (IsFaulty N.L.faults dialler.new.unpaired) (N.faults dialler.old.net) (N.faults dialler.new.net) e) }
     ensures later { N.faults dialler.old.net ≤ N.faults dialler.new.net }
 {
@@ -120,7 +125,10 @@ fn tell_line<
 ) -> Result<(), MountError>
 where
     N::L: Drop + Send + 's,
-    ensures ends { AnswerEnds (IsFaulty N.L.faults dialler.new.unpaired) (K.held sink.old) (K.held sink.new) (K.faults sink.old) (K.faults sink.new) (N.faults dialler.old.net) (N.faults dialler.new.net) result }
+    ensures ran { OnOk result ((answer : AnswerLine) × Ran D.runs D.takes line answer × Appends (K.held sink.old) (K.held sink.new) answer.text) }
+    ensures ends { AnswerEnds (IsFaulty N.L.faults dialler.new.unpaired) (K.held sink.old)
+        (K.held sink.new) (K.faults sink.old) (K.faults sink.new) (N.faults dialler.old.net)
+        (N.faults dialler.new.net) result }
     ensures later { (N.faults dialler.old.net ≤ N.faults dialler.new.net) × (K.faults sink.old ≤ K.faults sink.new) }
 {
     // Errors are handed on by a `match`, which is proved more cheaply than `?` (docs/PROVING.md, Code).
@@ -151,7 +159,10 @@ fn run_text<
 ) -> Result<(), MountError>
 where
     N::L: Drop + Send + 's,
-    ensures ends { TextEnds (IsFaulty N.L.faults dialler.new.unpaired) (line_of text.now) number (K.held sink.old) (K.held sink.new) (K.faults sink.old) (K.faults sink.new) (N.faults dialler.old.net) (N.faults dialler.new.net) result }
+    ensures ran { OnOk result (RunsTold D.runs D.takes (line_of text.now) (K.held sink.old) (K.held sink.new)) }
+    ensures ends { TextEnds (IsFaulty N.L.faults dialler.new.unpaired) (line_of text.now) number
+        (K.held sink.old) (K.held sink.new) (K.faults sink.old) (K.faults sink.new)
+        (N.faults dialler.old.net) (N.faults dialler.new.net) result }
     ensures later { (N.faults dialler.old.net ≤ N.faults dialler.new.net) × (K.faults sink.old ≤ K.faults sink.new) }
 {
     // Asked of the text, since a line that was read would have to be dropped.
@@ -186,7 +197,21 @@ fn run_on<
 ) -> Result<(), MountError>
 where
     N::L: Drop + Send + 's,
-    ensures ends { Ends (IsFaulty N.L.faults dialler.new.unpaired) (record { left = S.left script.old; reads = S.faults script.old; held = K.held sink.old; writes = K.faults sink.old; dials = N.faults dialler.old.net }) (record { left = S.left script.new; reads = S.faults script.new; held = K.held sink.new; writes = K.faults sink.new; dials = N.faults dialler.new.net }) result }
+    ensures ends { Ends (IsFaulty N.L.faults dialler.new.unpaired)
+        (record {
+          left = S.left script.old;
+          reads = S.faults script.old;
+          held = K.held sink.old;
+          writes = K.faults sink.old;
+          dials = N.faults dialler.old.net;
+        })
+        (record {
+          left = S.left script.new;
+          reads = S.faults script.new;
+          held = K.held sink.new;
+          writes = K.faults sink.new;
+          dials = N.faults dialler.new.net;
+        }) result }
     ensures later { (S.faults script.old ≤ S.faults script.new) × (K.faults sink.old ≤ K.faults sink.new) }
 {
     let mut lines = match Script::new(turns.alloc()) {
@@ -242,7 +267,21 @@ pub(crate) fn run_lines<
 ) -> Result<(), MountError>
 where
     N::L: Drop + Send + 's,
-    ensures ends { Ends (IsFaulty N.L.faults dialler.new.unpaired) (record { left = S.left script.old; reads = S.faults script.old; held = K.held sink.old; writes = K.faults sink.old; dials = N.faults dialler.old.net }) (record { left = S.left script.new; reads = S.faults script.new; held = K.held sink.new; writes = K.faults sink.new; dials = N.faults dialler.new.net }) result }
+    ensures ends { Ends (IsFaulty N.L.faults dialler.new.unpaired)
+        (record {
+          left = S.left script.old;
+          reads = S.faults script.old;
+          held = K.held sink.old;
+          writes = K.faults sink.old;
+          dials = N.faults dialler.old.net;
+        })
+        (record {
+          left = S.left script.new;
+          reads = S.faults script.new;
+          held = K.held sink.new;
+          writes = K.faults sink.new;
+          dials = N.faults dialler.new.net;
+        }) result }
     ensures later { (S.faults script.old ≤ S.faults script.new) × (K.faults sink.old ≤ K.faults sink.new) }
 {
     match connect(scope, rt, turns, dialler, clock) {

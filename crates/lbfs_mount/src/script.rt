@@ -93,7 +93,10 @@ impl Script {
         source: &mut S,
     ) -> Result<Option<Bytes>, ReadError>
         ensures line { IfOk result (λ r. IfSome r (λ line. (bytes : List ℕ) × Consumes (S.left source.old) (S.left source.new) bytes × Gives self.old bytes line self.new)) }
-        ensures end { result ≡ Ok None → (bytes : List ℕ) × Consumes (S.left source.old) (S.left source.new) bytes × Takes self.old bytes self.new × (self.new.ended ≡ true) × (coming self.new [] ≡ []) }
+        ensures end { result ≡ Ok None → (bytes : List ℕ)
+            × Consumes (S.left source.old) (S.left source.new) bytes
+            × Takes self.old bytes self.new × (self.new.ended ≡ true)
+            × (coming self.new [] ≡ []) }
         ensures ended { self.old.ended ≡ false → self.new.ended ≡ true → IsAtEnd (S.left source.new) }
         ensures still { OnOk result (self.old.ended ≡ true → (self.new.ended ≡ true) × (self.new.taken ≡ self.old.taken) × (source.new ≡ source.old)) }
         ensures fault { IsErrOf result errors.Fault → Rose (S.faults source.old) (S.faults source.new) }

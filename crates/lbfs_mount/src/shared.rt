@@ -1,6 +1,7 @@
-//! The turns of a mount: each locks what its threads share, and is one call of `Turns`. That a call is
-//! what its contract says is proved of `Desk`; of a turn no clause speaks, since another thread's may
-//! stand before and behind it. That no others are taken is a fact of `KeptDesk`, which no lock hides.
+//! The turns of a mount: each locks what its threads share, and is one call of `Turns`. What a call makes is
+//! proved of `Desk`. Another thread's turn may stand before and behind each, so a clause says that of some two
+//! desks the one was made of the other by just this call. That no others are taken is a fact of `KeptDesk`,
+//! which no lock hides.
 //!
 //! A connection's thread takes the turns of `Shared`. Lines run and connections are joined by `ScriptTurns`
 //! alone, which the mount's farewell takes away: so the client takes no line behind that.
@@ -55,12 +56,14 @@ impl<D: Turns + Drop> Shared<D> {
         &self,
         rt: &W,
         connection: u64,
-        record: &[u8],
+        bytes: &[u8],
         more: bool,
         now: u64,
-    ) -> bool {
+    ) -> bool
+        ensures { (a : D) × (b : D) × D.hears a connection bytes.now more now result b }
+    {
         let mut desk = self.desk.lock(rt);
-        let goes_on = desk.hear(self.alloc, connection, record, more, now);
+        let goes_on = desk.hear(self.alloc, connection, bytes, more, now);
         let has_news = desk.has_news();
         drop(desk);
         // Whoever waits for a line isn't woken by each of the records that come before it.
@@ -71,7 +74,9 @@ impl<D: Turns + Drop> Shared<D> {
     }
 
     /// A turn in which a connection's records have ended.
-    pub(crate) fn stop<W: Wait>(&self, rt: &W, connection: u64, end: End, now: u64) {
+    pub(crate) fn stop<W: Wait>(&self, rt: &W, connection: u64, end: End, now: u64)
+        ensures { (a : D) × (b : D) × D.stops a connection end now b }
+    {
         self.desk.lock(rt).stop(self.alloc, connection, end, now);
         self.news.notify_all();
     }
@@ -106,7 +111,9 @@ impl<'e, D: Turns + Drop> ScriptTurns<'e, D> {
         rt: &W,
         line: MountLine,
         now: u64,
-    ) -> (bool, Option<SharedBytes>) {
+    ) -> (bool, Option<SharedBytes>)
+        ensures { (a : D) × (b : D) × D.runs a line now result.0 b }
+    {
         let mut desk = self.shared.desk.lock(rt);
         let wants = desk.run(self.shared.alloc, line, now);
         let bytes = desk.read_bytes();
@@ -115,7 +122,9 @@ impl<'e, D: Turns + Drop> ScriptTurns<'e, D> {
     }
 
     /// A turn in which a line that waits goes on, with what was found of its bytes ahead, if anything was.
-    pub(crate) fn go_on<W: Wait>(&self, rt: &W, found: Option<CutBytes>, now: u64) {
+    pub(crate) fn go_on<W: Wait>(&self, rt: &W, found: Option<CutBytes>, now: u64)
+        ensures { (a : D) × (b : D) × D.continues a now b }
+    {
         self.shared
             .desk
             .lock(rt)
@@ -124,7 +133,9 @@ impl<'e, D: Turns + Drop> ScriptTurns<'e, D> {
 
     /// A turn that takes the line of what ended, once there is one. The error says that memory ran
     /// out.
-    pub(crate) fn await_line<W: Wait>(&self, rt: &W) -> Result<AnswerLine, AllocError> {
+    pub(crate) fn await_line<W: Wait>(&self, rt: &W) -> Result<AnswerLine, AllocError>
+        ensures { (a : D) × (b : D) × D.takes a result b }
+    {
         let mut desk = self.shared.desk.lock(rt);
         for _turn in rt.forever() {
             if desk.has_news() {
@@ -136,13 +147,17 @@ impl<'e, D: Turns + Drop> ScriptTurns<'e, D> {
     }
 
     /// A turn in which a connection is joined, on this link. It answers the connection's number.
-    pub(crate) fn join<W: Wait>(&self, rt: &W, link: D::L, now: u64) -> u64 {
+    pub(crate) fn join<W: Wait>(&self, rt: &W, link: D::L, now: u64) -> u64
+        ensures { (a : D) × (b : D) × D.joins a link now result b }
+    {
         self.shared.desk.lock(rt).join(self.shared.alloc, link, now)
     }
 
     /// The last turn of a mount: its farewell goes out where a link stands, and the link is shut, so that no
     /// more records come. No line runs behind it, and so none opens by the note of a lease that was given up.
-    pub(crate) fn leave<W: Wait>(self, rt: &W) -> Left {
+    pub(crate) fn leave<W: Wait>(self, rt: &W) -> Left
+        ensures { (a : D) × (b : D) × D.leaves a result b }
+    {
         let ScriptTurns { shared } = self;
         shared.desk.lock(rt).leave(shared.alloc)
     }

@@ -1,10 +1,11 @@
-use Rattle.std.proofs.Common.{refl, sym, ◌∙◌, subst}
+use Rattle.std.proofs.Common.{refl, sym, ◌∙◌, subst, inl}
 use Rattle.command_text.specs.Reading.{Fails}
 use Rattle.command_text.specs.declared.line_error.LineError.{LineError}
 use Rattle.lbfs_client.specs.Lines.{line_of}
 use Rattle.lbfs_client.specs.declared.line.MountLine.TheVariants as line
 use Rattle.lbfs_mount.specs.Mounts.{IsFaulty}
-use Rattle.lbfs_mount.proofs.Progress.{bad_ends, skipped_ends, starved_ends, text_ends}
+use Rattle.lbfs_mount.proofs.HeardAll.{line_told}
+use Rattle.lbfs_mount.proofs.Progress.{appends_none, bad_ends, skipped_ends, starved_ends, text_ends}
 use Rattle.lbfs_mount.proofs.Skipping.{says_nothing, says_something}
 use Rattle.lbfs_mount.proofs.running.run_text.Goals as goal
 
@@ -19,3 +20,9 @@ returns-in-Err-BadLine-clause-ends g c = bad_ends (IsFaulty g.N.L.Link.faults c.
 
 pub returns-in-Err-Memory-clause-ends : goal.returns-in-Err-Memory-clause-ends
 returns-in-Err-Memory-clause-ends g c = starved_ends (IsFaulty g.N.L.Link.faults c.args.dialler.now.unpaired) (line_of c.args.text.now) c.args.number (g.K.Sink.held c.args.sink.now) (g.K.Sink.faults c.args.sink.now) (g.N.Network.faults c.args.dialler.now.net)
+
+pub returns-then-is_skipped-clause-ran : goal.returns-then-is_skipped-clause-ran
+returns-then-is_skipped-clause-ran g c = inl (says_nothing c.args.text.now (sym c.is_skipped.ensures ∙ c.if-is_skipped.true), appends_none (g.K.Sink.held c.args.sink.now))
+
+pub returns-in-Ok-clause-ran : goal.returns-in-Ok-clause-ran
+returns-in-Ok-clause-ran g c = line_told g.D.Turns.runs g.D.Turns.takes (line_of c.args.text.now) c.in-Ok.line (g.K.Sink.held c.args.sink.now) (g.K.Sink.held c.tell_line.new.sink) c.tell_line.result c.in-Ok.ensures c.tell_line.ensures.ran
