@@ -79,7 +79,12 @@ fn keep<F: Files>(
     now: u64,
     send: Items<Message>,
 ) -> Result<Said, AllocError>
-    ensures { IfOk result (λ said. Keeps (record { files = F.files files.old; faults = F.faults files.old }) client.old file name.now outcome.now now send (record { files = F.files files.new; faults = F.faults files.new }) client.new said) }
+    ensures { IfOk result (λ said.
+        Keeps (record {
+          files = F.files files.old;
+          faults = F.faults files.old;
+        }) client.old file name.now outcome.now now send
+        (record { files = F.files files.new; faults = F.faults files.new }) client.new said) }
 {
     let wrote = write(alloc, files, name, local(client, file));
     let answer = kept_answer(alloc, outcome, wrote)?;
@@ -96,7 +101,12 @@ pub(crate) fn fetched<F: Files>(
     now: u64,
     send: Items<Message>,
 ) -> Result<Said, AllocError>
-    ensures { IfOk result (λ said. Fetched (record { files = F.files files.old; faults = F.faults files.old }) client.old name.now outcome.now now send (record { files = F.files files.new; faults = F.faults files.new }) client.new said) }
+    ensures { IfOk result (λ said.
+        Fetched (record {
+          files = F.files files.old;
+          faults = F.faults files.old;
+        }) client.old name.now outcome.now now send
+        (record { files = F.files files.new; faults = F.faults files.new }) client.new said) }
 {
     match opened_file(outcome) {
         Some(file) => keep(alloc, files, client, file, name, outcome, now, send),

@@ -44,7 +44,20 @@ fn begin<F: Files>(
     command: Command,
     now: u64,
 ) -> Result<Said, AllocError>
-    ensures { IfOk result (λ said. Begins (record { host = record { files = F.files files.old; faults = F.faults files.old }; client = client.old; walk = walk.old }) next command now (record { host = record { files = F.files files.new; faults = F.faults files.new }; client = client.new; walk = walk.new }) said) }
+    ensures { IfOk result (λ said.
+        Begins (record {
+          host = record {
+            files = F.files files.old;
+            faults = F.faults files.old;
+          };
+          client = client.old;
+          walk = walk.old;
+        }) next command now
+        (record {
+          host = record { files = F.files files.new; faults = F.faults files.new };
+          client = client.new;
+          walk = walk.new;
+        }) said) }
 {
     let mut send = Items::new(alloc);
     // Errors are handed on by a `match`, which is proved more cheaply than `?` (docs/PROVING.md, Code).
@@ -104,7 +117,12 @@ fn put<F: Files>(
     name: &LocalName,
     place: Place,
 ) -> Result<Said, AllocError>
-    ensures { IfOk result (λ said. PutLine (record { files = F.files files.old; faults = F.faults files.old }) walk.old name.now place (record { files = F.files files.new; faults = F.faults files.new }) walk.new said) }
+    ensures { IfOk result (λ said.
+        PutLine (record {
+          files = F.files files.old;
+          faults = F.faults files.old;
+        }) walk.old name.now place
+        (record { files = F.files files.new; faults = F.faults files.new }) walk.new said) }
 {
     if walk.is_some() {
         drop(place);
@@ -125,7 +143,20 @@ fn go_on_with<F: Files>(
     now: u64,
 ) -> Result<Said, AllocError>
     requires { walk.old ≡ None }
-    ensures { IfOk result (λ said. GoesOn (record { host = record { files = F.files files.old; faults = F.faults files.old }; client = client.old; walk = Some held }) (Some held) now (record { host = record { files = F.files files.new; faults = F.faults files.new }; client = client.new; walk = walk.new }) said) }
+    ensures { IfOk result (λ said.
+        GoesOn (record {
+          host = record {
+            files = F.files files.old;
+            faults = F.faults files.old;
+          };
+          client = client.old;
+          walk = Some held;
+        }) (Some held) now
+        (record {
+          host = record { files = F.files files.new; faults = F.faults files.new };
+          client = client.new;
+          walk = walk.new;
+        }) said) }
 {
     match held {
         Walk::Reads(place, bytes) => {
@@ -170,7 +201,20 @@ pub(crate) fn go_on<F: Files>(
     found: Option<CutBytes>,
     now: u64,
 ) -> Result<Said, AllocError>
-    ensures { IfOk result (λ said. GoesOn (record { host = record { files = F.files files.old; faults = F.faults files.old }; client = client.old; walk = walk.old }) walk.old now (record { host = record { files = F.files files.new; faults = F.faults files.new }; client = client.new; walk = walk.new }) said) }
+    ensures { IfOk result (λ said.
+        GoesOn (record {
+          host = record {
+            files = F.files files.old;
+            faults = F.faults files.old;
+          };
+          client = client.old;
+          walk = walk.old;
+        }) walk.old now
+        (record {
+          host = record { files = F.files files.new; faults = F.faults files.new };
+          client = client.new;
+          walk = walk.new;
+        }) said) }
 {
     match walk.take() {
         Some(held) => go_on_with(alloc, files, client, walk, held, found, now),
@@ -198,7 +242,20 @@ fn get<F: Files>(
     name: LocalName,
     now: u64,
 ) -> Result<Said, AllocError>
-    ensures { IfOk result (λ said. GetLine (record { host = record { files = F.files files.old; faults = F.faults files.old }; client = client.old; walk = walk.old }) walk.old place name now (record { host = record { files = F.files files.new; faults = F.faults files.new }; client = client.new; walk = walk.new }) said) }
+    ensures { IfOk result (λ said.
+        GetLine (record {
+          host = record {
+            files = F.files files.old;
+            faults = F.faults files.old;
+          };
+          client = client.old;
+          walk = walk.old;
+        }) walk.old place name now
+        (record {
+          host = record { files = F.files files.new; faults = F.faults files.new };
+          client = client.new;
+          walk = walk.new;
+        }) said) }
 {
     if walk.is_some() {
         drop(place);
@@ -232,7 +289,17 @@ pub(crate) fn run<F: Files>(
     line: MountLine,
     now: u64,
 ) -> Result<Said, AllocError>
-    ensures { IfOk result (λ said. Runs (record { host = record { files = F.files files.old; faults = F.faults files.old }; client = client.old; walk = walk.old }) line now (record { host = record { files = F.files files.new; faults = F.faults files.new }; client = client.new; walk = walk.new }) said) }
+    ensures { IfOk result (λ said.
+        Runs (record {
+          host = record { files = F.files files.old; faults = F.faults files.old };
+          client = client.old;
+          walk = walk.old;
+        }) line now
+        (record {
+          host = record { files = F.files files.new; faults = F.faults files.new };
+          client = client.new;
+          walk = walk.new;
+        }) said) }
 {
     match line {
         MountLine::Plain(command) => plain(alloc, client, command, now),

@@ -33,7 +33,21 @@ fn walk_with<F: Files>(
     send: Items<Message>,
 ) -> Result<Said, AllocError>
     requires { walk.old ≡ None }
-    ensures { IfOk result (λ said. Walks (record { host = record { files = F.files files.old; faults = F.faults files.old }; client = client.old; walk = Some held }) (Some held) outcome.now now send (record { host = record { files = F.files files.new; faults = F.faults files.new }; client = client.new; walk = walk.new }) said) }
+    ensures { IfOk result (λ said.
+        Walks (record {
+          host = record {
+            files = F.files files.old;
+            faults = F.faults files.old;
+          };
+          client = client.old;
+          walk = Some held;
+        })
+        (Some held) outcome.now now send
+        (record {
+          host = record { files = F.files files.new; faults = F.faults files.new };
+          client = client.new;
+          walk = walk.new;
+        }) said) }
 {
     match held {
         Walk::Joins => {
@@ -64,7 +78,20 @@ pub(crate) fn lead<F: Files>(
     now: u64,
     send: Items<Message>,
 ) -> Result<Said, AllocError>
-    ensures { IfOk result (λ said. Leads (record { host = record { files = F.files files.old; faults = F.faults files.old }; client = client.old; walk = walk.old }) ended.now now send (record { host = record { files = F.files files.new; faults = F.faults files.new }; client = client.new; walk = walk.new }) said) }
+    ensures { IfOk result (λ said.
+        Leads (record {
+          host = record {
+            files = F.files files.old;
+            faults = F.faults files.old;
+          };
+          client = client.old;
+          walk = walk.old;
+        }) ended.now now send
+        (record {
+          host = record { files = F.files files.new; faults = F.faults files.new };
+          client = client.new;
+          walk = walk.new;
+        }) said) }
 {
     match ended {
         None => Ok(sends(send)),
@@ -94,7 +121,20 @@ fn follow<F: Files>(
     step: ClientStep,
     now: u64,
 ) -> Result<Said, AllocError>
-    ensures { IfOk result (λ said. Leads (record { host = record { files = F.files files.old; faults = F.faults files.old }; client = client.old; walk = noted walk.old step.found }) step.ended now step.send (record { host = record { files = F.files files.new; faults = F.faults files.new }; client = client.new; walk = walk.new }) said) }
+    ensures { IfOk result (λ said.
+        Leads (record {
+          host = record {
+            files = F.files files.old;
+            faults = F.faults files.old;
+          };
+          client = client.old;
+          walk = noted walk.old step.found;
+        }) step.ended now step.send
+        (record {
+          host = record { files = F.files files.new; faults = F.faults files.new };
+          client = client.new;
+          walk = walk.new;
+        }) said) }
 {
     note(walk, step.found);
     let (more, ended) = step.into_parts();
@@ -122,7 +162,20 @@ fn hear<F: Files>(
     message: Result<Message, WireFault>,
     now: u64,
 ) -> Result<Said, AllocError>
-    ensures { IfOk result (λ said. Hearing (record { host = record { files = F.files files.old; faults = F.faults files.old }; client = client.old; walk = walk.old }) message now (record { host = record { files = F.files files.new; faults = F.faults files.new }; client = client.new; walk = walk.new }) said) }
+    ensures { IfOk result (λ said.
+        Hearing (record {
+          host = record {
+            files = F.files files.old;
+            faults = F.faults files.old;
+          };
+          client = client.old;
+          walk = walk.old;
+        }) message now
+        (record {
+          host = record { files = F.files files.new; faults = F.faults files.new };
+          client = client.new;
+          walk = walk.new;
+        }) said) }
 {
     let step = client.got(alloc, message, now);
     follow(alloc, files, client, walk, step, now)
@@ -138,7 +191,20 @@ pub(crate) fn receive<F: Files>(
     bytes: &[u8],
     now: u64,
 ) -> Result<Said, AllocError>
-    ensures { IfOk result (λ said. Receives (record { host = record { files = F.files files.old; faults = F.faults files.old }; client = client.old; walk = walk.old }) listed bytes.now now (record { host = record { files = F.files files.new; faults = F.faults files.new }; client = client.new; walk = walk.new }) said) }
+    ensures { IfOk result (λ said.
+        Receives (record {
+          host = record {
+            files = F.files files.old;
+            faults = F.faults files.old;
+          };
+          client = client.old;
+          walk = walk.old;
+        }) listed bytes.now now
+        (record {
+          host = record { files = F.files files.new; faults = F.faults files.new };
+          client = client.new;
+          walk = walk.new;
+        }) said) }
 {
     let mut message = message_of(alloc, bytes, client.waiting())?;
     bound(alloc, listed, &mut message);
@@ -153,7 +219,23 @@ fn lose<F: Files>(
     walk: &mut Option<Walk>,
     now: u64,
 ) -> Result<Said, AllocError>
-    ensures { IfOk result (λ said. Loses (record { host = record { files = F.files files.old; faults = F.faults files.old }; client = client.old; walk = walk.old }) (cut client.old) now (record { host = record { files = F.files files.new; faults = F.faults files.new }; client = client.new; walk = walk.new }) said) }
+    ensures { IfOk result (λ said.
+        Loses (record {
+          host = record {
+            files = F.files files.old;
+            faults = F.faults files.old;
+          };
+          client = client.old;
+          walk = walk.old;
+        })
+        (cut client.old) now (record {
+          host = record {
+            files = F.files files.new;
+            faults = F.faults files.new;
+          };
+          client = client.new;
+          walk = walk.new;
+        }) said) }
 {
     let step = client.cut(alloc);
     follow(alloc, files, client, walk, step, now)
@@ -168,7 +250,20 @@ pub(crate) fn stop<F: Files>(
     end: End,
     now: u64,
 ) -> Result<Said, AllocError>
-    ensures { IfOk result (λ said. Stops (record { host = record { files = F.files files.old; faults = F.faults files.old }; client = client.old; walk = walk.old }) end now (record { host = record { files = F.files files.new; faults = F.faults files.new }; client = client.new; walk = walk.new }) said) }
+    ensures { IfOk result (λ said.
+        Stops (record {
+          host = record {
+            files = F.files files.old;
+            faults = F.faults files.old;
+          };
+          client = client.old;
+          walk = walk.old;
+        }) end now
+        (record {
+          host = record { files = F.files files.new; faults = F.faults files.new };
+          client = client.new;
+          walk = walk.new;
+        }) said) }
 {
     match end {
         End::InputEnd => lose(alloc, files, client, walk, now),

@@ -120,6 +120,7 @@ joined_core k client seat = record k {
   server = record k.server { sessions = k.server.sessions ++ (k.server.sessions_made + 1) ∷ []; sessions_made = k.server.sessions_made + 1 };
   seats = with_numbered k.seats client (seated seat (k.server.sessions_made + 1));
   sessions = k.sessions ++ new_session client ∷ [];
+  came = k.came ++ 0 ∷ [];
 }
 
 join_leaves : (k : Core) (client : ℕ) (seat : Seat) → numbered k.seats client ≡ Some seat → has_room k.server ≡ true → (happens k (Joins client)).core ≡ joined_core k client seat

@@ -5,13 +5,14 @@ use Rattle.rpc_record.specs.Records.{fed}
 use Rattle.wire.specs.Parse.{parse_of}
 use Rattle.wire.specs.declared.message.Message.{Message}
 use Rattle.wire.specs.declared.fault.WireFault.{WireFault}
+use Rattle.wire.specs.declared.fault.WireFault.TheVariants as fault
 use Rattle.command_text.specs.declared.command.Command.{Command}
-use Rattle.trace_ends.specs.Core.{Event.Does, Event.Serves, Event.Hears, server_waits, serves, serves_if, hears, hears_at, hears_if, does}
+use Rattle.trace_ends.specs.Core.{Event.Does, Event.Serves, Event.Hears, server_waits, serves, serves_if, serves_none, serves_unless, hears, hears_at, hears_if, does}
 use Rattle.trace_ends.specs.Session.{Seat, Session, is_newest}
 use Rattle.trace_ends.specs.Numbers.{numbered, with_numbered}
 use Rattle.trace_replay.specs.World.{World, happened}
 use Rattle.trace_ends.specs.Wires.{Wire}
-use Rattle.trace_replay.specs.Delivery.{all_happened, up_some, up_at, up_taken, down_some, down_at, down_taken, up_all, up_length, down_length, is_still, round, passes}
+use Rattle.trace_replay.specs.Delivery.{all_happened, up_some, up_at, up_taken, taken_up, down_some, down_at, down_taken, up_all, up_length, down_length, is_still, round, passes}
 
 abbrev count : World → ℕ
 count w = length w.core.seats
@@ -27,11 +28,20 @@ with_length xs (suc i) x = set_length xs i x
 
 served : (w : World) (n now : ℕ) (bytes : List ℕ) (o : Option Session) → length (serves w.core n now bytes o).core.seats ≡ count w
 served w n now bytes None = refl
-served w n now bytes (Some x) = by (parse_of (server_waits w.core n) bytes)
+served w n now bytes (Some x) = by x.hung
   where
-    by : (r : Result Message WireFault) → length (serves_if w.core n now x r).core.seats ≡ count w
-    by (Ok m) = refl
-    by (Err e) = refl
+    none : (e : WireFault) → length (serves_none w.core n x e).core.seats ≡ count w
+    none (fault.UnknownXid xid) = refl
+    none (fault.NotRpc place) = refl
+    none (fault.Garbage place) = refl
+
+    read : (r : Result Message WireFault) → length (serves_if w.core n now x r).core.seats ≡ count w
+    read (Ok m) = refl
+    read (Err e) = none e
+
+    by : (b : Bool) → length (serves_unless w.core n now bytes x b).core.seats ≡ count w
+    by true = refl
+    by false = read (parse_of (server_waits w.core n) bytes)
 
 heard : (w : World) (n now : ℕ) (bytes : List ℕ) (o : Option Session) → length (hears w.core n now bytes o).core.seats ≡ count w
 heard w n now bytes None = refl
@@ -65,7 +75,7 @@ up_count w n amount now = by (numbered w.wires n)
   where
     by : (o : Option Wire) → count (up_at w n amount now o) ≡ count w
     by None = refl
-    by (Some q) = serve_all (up_taken w n amount q) n now (fed q.server_end (take amount q.up)).1.records
+    by (Some q) = serve_all (up_taken w n amount q) n now (taken_up (fed q.server_end (take amount q.up)).1)
 
 down_count : (w : World) (n amount now : ℕ) → count (down_some w n amount now) ≡ count w
 down_count w n amount now = by (numbered w.wires n)

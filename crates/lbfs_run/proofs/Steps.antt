@@ -1,6 +1,6 @@
 -- Lines that are taken, one after the other.
-use Rattle.std.proofs.Common.{◌≡◌, ◌⊎◌, ℕ, zero, suc, ◌+◌, ◌<◌, ◌≤◌, List, [], ◌∷◌, ◌++◌, length, Option, Some, Bool, true, refl, sym, ap, ◌∙◌, arith}
-use Rattle.std.specs.Prelude.{Result, Ok, Err, map, nat_le, slice_get}
+use Rattle.std.proofs.Common.{◌≡◌, ◌⊎◌, ℕ, zero, suc, ◌+◌, ◌<◌, ◌≤◌, List, [], ◌∷◌, ◌++◌, length, Option, Some, None, Bool, true, false, refl, sym, ap, ◌∙◌, arith}
+use Rattle.std.specs.Prelude.{Result, Ok, Err, map, nat_le, not, ◌==◌, slice_get}
 use Rattle.std.proofs.lemmas.Bool.Decides.{nat_tests}
 use Rattle.std.proofs.lemmas.List.{length-append}
 use Rattle.clock_rule.specs.Keeping.{and_reading}
@@ -20,7 +20,7 @@ use Rattle.trace_replay.specs.declared.turn.Turn.TheVariants as turn
 use Rattle.trace_ends.specs.Session.{Session}
 use Rattle.trace_ends.specs.Numbers.{numbered}
 use Rattle.trace_replay.specs.World.{World}
-use Rattle.trace_replay.specs.Run.{line_most, is_there, asks_if, asks_at, asks, asks_within, at_events, refused}
+use Rattle.trace_replay.specs.Run.{line_most, is_there, is_owned_at, asks_if, asks_at, asks, asks_within, at_events, refused}
 use Rattle.trace_replay.specs.Timed.{Timed, Times, timing_of, pass_timing, owners_of, read_by, times_with, with_times, times_if, timed_by, timed_turn}
 use Rattle.trace_replay.specs.Lines.{applied_from}
 use Rattle.trace_replay.proofs.lemmas.Going.{applied_then}
@@ -111,12 +111,35 @@ own_session (suc (suc (suc zero))) c = refl
 own_session (suc (suc (suc (suc zero)))) c = refl
 own_session (suc (suc (suc (suc (suc n))))) c = absurd (omega (arith, c.1))
 
-owner_count : (xs : List Session) → length (map (λ x. x.owner) xs) ≡ length xs
-owner_count [] = refl
-owner_count (x ∷ xs) = ap suc (owner_count xs)
+-- whether a session with this owner is a client's
+abbrev owned_by : Option ℕ → Bool
+owned_by None = false
+owned_by (Some owner) = not (owner == 0)
 
-four_sessions : (v : Timed) (server at : ℕ) → Stands v server at → length v.world.core.sessions ≡ 4
-four_sessions v server at h = sym (owner_count v.world.core.sessions) ∙ ap length h.owners
+own_client : (c : ℕ) → IsClient c → owned_by (Some c) ≡ true
+own_client zero c = absurd (omega (arith, c.0))
+own_client (suc zero) c = refl
+own_client (suc (suc zero)) c = refl
+own_client (suc (suc (suc zero))) c = refl
+own_client (suc (suc (suc (suc zero)))) c = refl
+own_client (suc (suc (suc (suc (suc n))))) c = absurd (omega (arith, c.1))
+
+owned_in : (xs : List Session) (i : ℕ) → is_owned_at (slice_get xs i) ≡ owned_by (slice_get (map (λ x. x.owner) xs) i)
+owned_in [] i = refl
+owned_in (x ∷ xs) zero = refl
+owned_in (x ∷ xs) (suc i) = owned_in xs i
+
+owned_numbered : (xs : List Session) (c : ℕ) → is_owned_at (numbered xs c) ≡ owned_by (numbered (map (λ x. x.owner) xs) c)
+owned_numbered xs zero = refl
+owned_numbered xs (suc i) = owned_in xs i
+
+-- the session of a client's number is a client's
+owned_session : (v : Timed) (server at client : ℕ) → Stands v server at → IsClient client → is_owned_at (numbered v.world.core.sessions client) ≡ true
+owned_session v server at client h c =
+    owned_numbered v.world.core.sessions client
+    ∙ ap (λ (os : List ℕ). owned_by (numbered os client)) h.owners
+    ∙ ap owned_by (own_session client c)
+    ∙ own_client client c
 
 -- ---- the lines of blocks
 
@@ -144,7 +167,7 @@ passes_then v n server at client rounds now later until bytes lines h said few c
     let w : World = v.world in
     let t : Turn = turn.Pass client rounds now now in
     let times : Times = record v.times { clocks = and_reading v.times.clocks (reads.Both now client now) } in
-    let asked : asks w (line.Pass client rounds now now) ≡ Ok t = ap (λ (s : Stage). asks_at w s (line.Pass client rounds now now)) h.stage ∙ ap (λ (b : Bool). asks_if b t) (there w.core.sessions client (four_sessions v server at h) c) in
+    let asked : asks w (line.Pass client rounds now now) ≡ Ok t = ap (λ (s : Stage). asks_at w s (line.Pass client rounds now now)) h.stage ∙ ap (λ (b : Bool). asks_if b t) (owned_session v server at client h c) in
     let says : timing_of (owners_of w) (line.Pass client rounds now now) ≡ timing.Reads (reads.Both now client now) = ap (λ (os : List ℕ). pass_timing now now (numbered os client)) h.owners ∙ ap (pass_timing now now) (own_session client c) in
     let clock : times_with v.times (timing_of (owners_of w) (line.Pass client rounds now now)) ≡ Ok times = ap (times_with v.times) says ∙ ap (read_by v.times) (both_read v.times.clocks server at client now h.ticks up after) in
     line_first v (timed_turn v (t, times)) n bytes lines later until (taken v n bytes (line.Pass client rounds now now) t times said few asked clock)

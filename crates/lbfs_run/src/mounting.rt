@@ -104,7 +104,10 @@ pub(crate) fn run_mount<
 ) -> (Status, Outside<S, K, D, F, N, C, R>, Option<N::L>)
 where
     N::L: Drop + Send,
-    ensures mounts { MountEnds (is_some options.cache) (S.left out.source) (S.left result.1.source) (K.held out.sink) (K.held result.1.sink) (S.faults out.source) (S.faults result.1.source) (K.faults out.sink) (N.faults out.network) (N.faults result.1.network) (IsFaulty N.L.faults result.2) result.0 }
+    ensures mounts { MountEnds (is_some options.cache) (S.left out.source)
+        (S.left result.1.source) (K.held out.sink) (K.held result.1.sink) (S.faults out.source)
+        (S.faults result.1.source) (K.faults out.sink) (N.faults out.network)
+        (N.faults result.1.network) (IsFaulty N.L.faults result.2) result.0 }
     ensures saved { result.0 ≡ status.Done → IfSome options.cache (λ name. ∥ IsSaved options.drift options.keep name (record { files = F.files result.1.files; faults = F.faults result.1.files }) ∥₁) }
     ensures unstored { result.1.store ≡ out.store }
     ensures read_later { S.faults out.source ≤ S.faults result.1.source }

@@ -54,7 +54,10 @@ fn read_and_run<S: Source>(
     source: &mut S,
 ) -> Result<Output, UnreadError>
     ensures told { IfOk result (λ out. (input : List ℕ) → S.left source.old ≡ Some input → output_for (Some (OfInput command)) input ≡ (out.status, out.text)) }
-    ensures taken { IfOk result (λ out. (input : List ℕ) × Consumes (S.left source.old) (S.left source.new) input × (out.status ≡ status.Done → IsAtEnd (S.left source.new)) × (output_for (Some (OfInput command)) input ≡ (out.status, out.text))) }
+    ensures taken { IfOk result (λ out. (input : List ℕ)
+        × Consumes (S.left source.old) (S.left source.new) input
+        × (out.status ≡ status.Done → IsAtEnd (S.left source.new))
+        × (output_for (Some (OfInput command)) input ≡ (out.status, out.text))) }
     ensures whole { IfOk result (λ out. IsWhole out.status) }
     ensures later { S.faults source.old ≤ S.faults source.new }
     ensures fault { IsErrOf result unread.Fault → Rose (S.faults source.old) (S.faults source.new) }
@@ -75,7 +78,10 @@ fn output_of_one<S: Source>(
 ) -> Result<Output, UnreadError>
     requires { IsFew (Some command) }
     ensures told { IfOk result (λ out. (input : List ℕ) → S.left source.old ≡ Some input → output_for (Some command) input ≡ (out.status, out.text)) }
-    ensures taken { IfOk result (λ out. (input : List ℕ) × Consumes (S.left source.old) (S.left source.new) input × (out.status ≡ status.Done → reads (Some command) ≡ true → IsAtEnd (S.left source.new)) × (output_for (Some command) input ≡ (out.status, out.text))) }
+    ensures taken { IfOk result (λ out. (input : List ℕ)
+        × Consumes (S.left source.old) (S.left source.new) input
+        × (out.status ≡ status.Done → reads (Some command) ≡ true → IsAtEnd (S.left source.new))
+        × (output_for (Some command) input ≡ (out.status, out.text))) }
     ensures whole { IfOk result (λ out. IsWhole out.status) }
     ensures later { S.faults source.old ≤ S.faults source.new }
     ensures fault { IsErrOf result unread.Fault → Rose (S.faults source.old) (S.faults source.new) }
@@ -100,7 +106,10 @@ fn output_of<S: Source>(
 ) -> Result<Output, UnreadError>
     requires { IsFew command }
     ensures told { IfOk result (λ out. (input : List ℕ) → S.left source.old ≡ Some input → output_for command input ≡ (out.status, out.text)) }
-    ensures taken { IfOk result (λ out. (input : List ℕ) × Consumes (S.left source.old) (S.left source.new) input × (out.status ≡ status.Done → reads command ≡ true → IsAtEnd (S.left source.new)) × (output_for command input ≡ (out.status, out.text))) }
+    ensures taken { IfOk result (λ out. (input : List ℕ)
+        × Consumes (S.left source.old) (S.left source.new) input
+        × (out.status ≡ status.Done → reads command ≡ true → IsAtEnd (S.left source.new))
+        × (output_for command input ≡ (out.status, out.text))) }
     ensures whole { IfOk result (λ out. IsWhole out.status) }
     ensures later { S.faults source.old ≤ S.faults source.new }
     ensures fault { IsErrOf result unread.Fault → Rose (S.faults source.old) (S.faults source.new) }
@@ -167,10 +176,16 @@ pub fn run<S: Source, K: Sink>(
     sink: &mut K,
 ) -> Status
     requires { IsFew command }
-    ensures replayed { (view : View) → command ≡ Some (OfInput (input.Replay view)) → result ≡ status.Done → (trace : List ℕ) → S.left source.old ≡ Some trace → IsRun view (K.held sink.old) (K.held sink.new) trace }
-    ensures generated { (view : View) (seed blocks : ℕ) → command ≡ Some (OfSeed seed blocks (seeded.Replay view)) → result ≡ status.Done → IsRun view (K.held sink.old) (K.held sink.new) (generated_text seed blocks) }
+    ensures replayed { (view : View) → command ≡ Some (OfInput (input.Replay view))
+        → result ≡ status.Done → (trace : List ℕ) → S.left source.old ≡ Some trace
+        → IsRun view (K.held sink.old) (K.held sink.new) trace }
+    ensures generated { (view : View) (seed blocks : ℕ)
+        → command ≡ Some (OfSeed seed blocks (seeded.Replay view)) → result ≡ status.Done
+        → IsRun view (K.held sink.old) (K.held sink.new) (generated_text seed blocks) }
     ensures accepted { (seed blocks : ℕ) (made : SeedCommand) → command ≡ Some (OfSeed seed blocks made) → result ≡ status.Refused → ⊥ }
-    ensures read_again { (view : View) (seed blocks : ℕ) → command ≡ Some (OfInput (input.Replay view)) → blocks ≤ BLOCKS_MOST → S.left source.old ≡ Some (generated_text seed blocks) → result ≡ status.Refused → ⊥ }
+    ensures read_again { (view : View) (seed blocks : ℕ)
+        → command ≡ Some (OfInput (input.Replay view)) → blocks ≤ BLOCKS_MOST
+        → S.left source.old ≡ Some (generated_text seed blocks) → result ≡ status.Refused → ⊥ }
     ensures answered { IsWhole result → IsAnswered command (S.left source.old) (K.held sink.old) (K.held sink.new) result }
     ensures taken { IsWhole result → IsAnsweredFrom command (S.left source.old) (S.left source.new) (K.held sink.old) (K.held sink.new) result }
     ensures unread { reads command ≡ false → source.new ≡ source.old }

@@ -53,10 +53,16 @@ fn run_plain<S: Source, K: Sink, D, F, N: Network, C, R>(
     out: Outside<S, K, D, F, N, C, R>,
 ) -> (Status, Outside<S, K, D, F, N, C, R>, Option<N::L>)
     requires { IsFew command }
-    ensures replayed { (view : View) → command ≡ Some (OfInput (input.Replay view)) → result.0 ≡ status.Done → (trace : List ℕ) → S.left out.source ≡ Some trace → IsRun view (K.held out.sink) (K.held result.1.sink) trace }
-    ensures generated { (view : View) (seed blocks : ℕ) → command ≡ Some (OfSeed seed blocks (seeded.Replay view)) → result.0 ≡ status.Done → IsRun view (K.held out.sink) (K.held result.1.sink) (generated_text seed blocks) }
+    ensures replayed { (view : View) → command ≡ Some (OfInput (input.Replay view))
+        → result.0 ≡ status.Done → (trace : List ℕ) → S.left out.source ≡ Some trace
+        → IsRun view (K.held out.sink) (K.held result.1.sink) trace }
+    ensures generated { (view : View) (seed blocks : ℕ)
+        → command ≡ Some (OfSeed seed blocks (seeded.Replay view)) → result.0 ≡ status.Done
+        → IsRun view (K.held out.sink) (K.held result.1.sink) (generated_text seed blocks) }
     ensures accepted { (seed blocks : ℕ) (made : SeedCommand) → command ≡ Some (OfSeed seed blocks made) → result.0 ≡ status.Refused → ⊥ }
-    ensures read_again { (view : View) (seed blocks : ℕ) → command ≡ Some (OfInput (input.Replay view)) → blocks ≤ BLOCKS_MOST → S.left out.source ≡ Some (generated_text seed blocks) → result.0 ≡ status.Refused → ⊥ }
+    ensures read_again { (view : View) (seed blocks : ℕ)
+        → command ≡ Some (OfInput (input.Replay view)) → blocks ≤ BLOCKS_MOST
+        → S.left out.source ≡ Some (generated_text seed blocks) → result.0 ≡ status.Refused → ⊥ }
     ensures answered { IsWhole result.0 → IsAnswered command (S.left out.source) (K.held out.sink) (K.held result.1.sink) result.0 }
     ensures taken { IsWhole result.0 → IsAnsweredFrom command (S.left out.source) (S.left result.1.source) (K.held out.sink) (K.held result.1.sink) result.0 }
     ensures unread { reads command ≡ false → result.1.source ≡ out.source }
@@ -113,10 +119,17 @@ pub fn run_asked<
 where
     N::L: Drop + Send,
     requires { IsFew (command_in asked) }
-    ensures replayed { (view : View) → command_in asked ≡ Some (OfInput (input.Replay view)) → result.0 ≡ status.Done → (trace : List ℕ) → S.left out.source ≡ Some trace → IsRun view (K.held out.sink) (K.held result.1.sink) trace }
-    ensures generated { (view : View) (seed blocks : ℕ) → command_in asked ≡ Some (OfSeed seed blocks (seeded.Replay view)) → result.0 ≡ status.Done → IsRun view (K.held out.sink) (K.held result.1.sink) (generated_text seed blocks) }
+    ensures replayed { (view : View) → command_in asked ≡ Some (OfInput (input.Replay view))
+        → result.0 ≡ status.Done → (trace : List ℕ) → S.left out.source ≡ Some trace
+        → IsRun view (K.held out.sink) (K.held result.1.sink) trace }
+    ensures generated { (view : View) (seed blocks : ℕ)
+        → command_in asked ≡ Some (OfSeed seed blocks (seeded.Replay view))
+        → result.0 ≡ status.Done
+        → IsRun view (K.held out.sink) (K.held result.1.sink) (generated_text seed blocks) }
     ensures accepted { (seed blocks : ℕ) (made : SeedCommand) → command_in asked ≡ Some (OfSeed seed blocks made) → result.0 ≡ status.Refused → ⊥ }
-    ensures read_again { (view : View) (seed blocks : ℕ) → command_in asked ≡ Some (OfInput (input.Replay view)) → blocks ≤ BLOCKS_MOST → S.left out.source ≡ Some (generated_text seed blocks) → result.0 ≡ status.Refused → ⊥ }
+    ensures read_again { (view : View) (seed blocks : ℕ)
+        → command_in asked ≡ Some (OfInput (input.Replay view)) → blocks ≤ BLOCKS_MOST
+        → S.left out.source ≡ Some (generated_text seed blocks) → result.0 ≡ status.Refused → ⊥ }
     ensures answered { is_alone asked ≡ true → IsWhole result.0 → IsAnswered (command_in asked) (S.left out.source) (K.held out.sink) (K.held result.1.sink) result.0 }
     ensures taken { is_alone asked ≡ true → IsWhole result.0 → IsAnsweredFrom (command_in asked) (S.left out.source) (S.left result.1.source) (K.held out.sink) (K.held result.1.sink) result.0 }
     ensures unread { takes_input asked ≡ false → result.1.source ≡ out.source }
@@ -128,15 +141,30 @@ where
     ensures broken { is_alone asked ≡ true → result.0 ≡ status.WriteFault → IsBroken (command_in asked) (S.left out.source) (K.held out.sink) (K.held result.1.sink) }
     ensures broken_off { is_alone asked ≡ true → result.0 ≡ status.WriteFault → IsBrokenFrom (command_in asked) (S.left out.source) (S.left result.1.source) (K.held out.sink) (K.held result.1.sink) }
     ensures starved { is_alone asked ≡ true → result.0 ≡ status.Memory → IsBegun (command_in asked) (S.left out.source) (K.held out.sink) (K.held result.1.sink) }
-    ensures starved_off { is_alone asked ≡ true → result.0 ≡ status.Memory → (result.1.sink ≡ out.sink) ⊎ IsBegunFrom (command_in asked) (S.left out.source) (S.left result.1.source) (K.held out.sink) (K.held result.1.sink) }
+    ensures starved_off { is_alone asked ≡ true → result.0 ≡ status.Memory
+        → (result.1.sink ≡ out.sink) ⊎ IsBegunFrom (command_in asked) (S.left out.source)
+        (S.left result.1.source) (K.held out.sink) (K.held result.1.sink) }
     ensures known { is_alone asked ≡ true → IsPlainEnd result.0 }
     ensures apart { is_alone asked ≡ true → (result.1.store ≡ out.store) × (result.1.files ≡ out.files) × (result.1.network ≡ out.network) }
-    ensures serves { (o : ServeOptions) → asked ≡ Some (ask.Serve o) → ServeEnds o (N.accepted out.network) (N.accepted result.1.network) (N.faults out.network) (N.faults result.1.network) (D.faults out.store) (D.faults result.1.store) (N.at result.1.network) (D.records out.store) (D.there out.store) (K.held out.sink) (K.held result.1.sink) result.0 }
+    ensures serves { (o : ServeOptions) → asked ≡ Some (ask.Serve o)
+        → ServeEnds o (N.accepted out.network) (N.accepted result.1.network)
+        (N.faults out.network) (N.faults result.1.network) (D.faults out.store)
+        (D.faults result.1.store) (N.at result.1.network) (D.records out.store)
+        (D.there out.store) (K.held out.sink) (K.held result.1.sink) result.0 }
     ensures unfiled { (o : ServeOptions) → asked ≡ Some (ask.Serve o) → result.1.files ≡ out.files }
-    ensures mounts { (o : MountOptions) → asked ≡ Some (ask.Mount o) → MountEnds (is_some o.cache) (S.left out.source) (S.left result.1.source) (K.held out.sink) (K.held result.1.sink) (S.faults out.source) (S.faults result.1.source) (K.faults out.sink) (N.faults out.network) (N.faults result.1.network) (IsFaulty N.L.faults result.2) result.0 }
-    ensures saved { (o : MountOptions) → asked ≡ Some (ask.Mount o) → result.0 ≡ status.Done → IfSome o.cache (λ name. ∥ IsSaved o.drift o.keep name (record { files = F.files result.1.files; faults = F.faults result.1.files }) ∥₁) }
+    ensures mounts { (o : MountOptions) → asked ≡ Some (ask.Mount o)
+        → MountEnds (is_some o.cache) (S.left out.source) (S.left result.1.source)
+        (K.held out.sink) (K.held result.1.sink) (S.faults out.source)
+        (S.faults result.1.source) (K.faults out.sink) (N.faults out.network)
+        (N.faults result.1.network) (IsFaulty N.L.faults result.2) result.0 }
+    ensures saved { (o : MountOptions) → asked ≡ Some (ask.Mount o) → result.0 ≡ status.Done
+        → IfSome o.cache (λ name.
+        ∥ IsSaved o.drift o.keep name
+        (record { files = F.files result.1.files; faults = F.faults result.1.files }) ∥₁) }
     ensures unstored { (o : MountOptions) → asked ≡ Some (ask.Mount o) → result.1.store ≡ out.store }
-    ensures checks { (o : CheckOptions) → asked ≡ Some (ask.Check o) → CheckEnds o (D.faults out.store) (D.faults result.1.store) (D.records out.store) (D.there out.store) (K.held out.sink) (K.held result.1.sink) result.0 }
+    ensures checks { (o : CheckOptions) → asked ≡ Some (ask.Check o)
+        → CheckEnds o (D.faults out.store) (D.faults result.1.store) (D.records out.store)
+        (D.there out.store) (K.held out.sink) (K.held result.1.sink) result.0 }
     ensures unchanged { (o : CheckOptions) → asked ≡ Some (ask.Check o) → (D.records result.1.store ≡ D.records out.store) × (result.1.files ≡ out.files) × (result.1.network ≡ out.network) }
     ensures network_fault { result.0 ≡ status.Network → Rose (N.faults out.network) (N.faults result.1.network) ⊎ IsFaulty N.L.faults result.2 }
     ensures store_fault { result.0 ≡ status.Store → StoreFails (D.faults out.store) (D.faults result.1.store) (D.records out.store) (K.held out.sink) (K.held result.1.sink) }
@@ -193,32 +221,79 @@ pub fn run<
 ) -> (Status, Outside<S, K, D, F, N, C, R>, Option<N::L>)
 where
     N::L: Drop + Send,
-    ensures headline { words_as_bytes words.now ≡ codes "replay" ∷ [] → result.0 ≡ status.Done → (input : List ℕ) → S.left out.source ≡ Some input → IsReplayed (K.held out.sink) (K.held result.1.sink) input }
-    ensures replayed { (view : View) → command_of (words_as_bytes words.now) ≡ Some (OfInput (input.Replay view)) → result.0 ≡ status.Done → (trace : List ℕ) → S.left out.source ≡ Some trace → IsRun view (K.held out.sink) (K.held result.1.sink) trace }
-    ensures generated { (view : View) (seed blocks : ℕ) → command_of (words_as_bytes words.now) ≡ Some (OfSeed seed blocks (seeded.Replay view)) → result.0 ≡ status.Done → IsRun view (K.held out.sink) (K.held result.1.sink) (generated_text seed blocks) }
+    ensures headline { words_as_bytes words.now ≡ codes "replay" ∷ [] → result.0 ≡ status.Done
+        → (input : List ℕ) → S.left out.source ≡ Some input
+        → IsReplayed (K.held out.sink) (K.held result.1.sink) input }
+    ensures replayed { (view : View) → command_of (words_as_bytes words.now)
+        ≡ Some (OfInput (input.Replay view)) → result.0 ≡ status.Done → (trace : List ℕ)
+        → S.left out.source ≡ Some trace
+        → IsRun view (K.held out.sink) (K.held result.1.sink) trace }
+    ensures generated { (view : View) (seed blocks : ℕ)
+        → command_of (words_as_bytes words.now) ≡ Some (OfSeed seed blocks (seeded.Replay view))
+        → result.0 ≡ status.Done
+        → IsRun view (K.held out.sink) (K.held result.1.sink) (generated_text seed blocks) }
     ensures accepted { (seed blocks : ℕ) (made : SeedCommand) → command_of (words_as_bytes words.now) ≡ Some (OfSeed seed blocks made) → result.0 ≡ status.Refused → ⊥ }
-    ensures read_again { (view : View) (seed blocks : ℕ) → command_of (words_as_bytes words.now) ≡ Some (OfInput (input.Replay view)) → blocks ≤ BLOCKS_MOST → S.left out.source ≡ Some (generated_text seed blocks) → result.0 ≡ status.Refused → ⊥ }
-    ensures answered { is_alone (asked_of (words_as_bytes words.now)) ≡ true → IsWhole result.0 → IsAnswered (command_of (words_as_bytes words.now)) (S.left out.source) (K.held out.sink) (K.held result.1.sink) result.0 }
-    ensures taken { is_alone (asked_of (words_as_bytes words.now)) ≡ true → IsWhole result.0 → IsAnsweredFrom (command_of (words_as_bytes words.now)) (S.left out.source) (S.left result.1.source) (K.held out.sink) (K.held result.1.sink) result.0 }
+    ensures read_again { (view : View) (seed blocks : ℕ)
+        → command_of (words_as_bytes words.now) ≡ Some (OfInput (input.Replay view))
+        → blocks ≤ BLOCKS_MOST → S.left out.source ≡ Some (generated_text seed blocks)
+        → result.0 ≡ status.Refused → ⊥ }
+    ensures answered { is_alone (asked_of (words_as_bytes words.now)) ≡ true → IsWhole result.0
+        → IsAnswered (command_of (words_as_bytes words.now)) (S.left out.source)
+        (K.held out.sink) (K.held result.1.sink) result.0 }
+    ensures taken { is_alone (asked_of (words_as_bytes words.now)) ≡ true → IsWhole result.0
+        → IsAnsweredFrom (command_of (words_as_bytes words.now)) (S.left out.source)
+        (S.left result.1.source) (K.held out.sink) (K.held result.1.sink) result.0 }
     ensures unread { takes_input (asked_of (words_as_bytes words.now)) ≡ false → result.1.source ≡ out.source }
     ensures read_later { S.faults out.source ≤ S.faults result.1.source }
     ensures write_later { K.faults out.sink ≤ K.faults result.1.sink }
     ensures read_fault { result.0 ≡ status.ReadFault → Rose (S.faults out.source) (S.faults result.1.source) }
     ensures nothing { is_alone (asked_of (words_as_bytes words.now)) ≡ true → result.0 ≡ status.ReadFault → result.1.sink ≡ out.sink }
     ensures write_fault { result.0 ≡ status.WriteFault → Rose (K.faults out.sink) (K.faults result.1.sink) }
-    ensures broken { is_alone (asked_of (words_as_bytes words.now)) ≡ true → result.0 ≡ status.WriteFault → IsBroken (command_of (words_as_bytes words.now)) (S.left out.source) (K.held out.sink) (K.held result.1.sink) }
-    ensures broken_off { is_alone (asked_of (words_as_bytes words.now)) ≡ true → result.0 ≡ status.WriteFault → IsBrokenFrom (command_of (words_as_bytes words.now)) (S.left out.source) (S.left result.1.source) (K.held out.sink) (K.held result.1.sink) }
-    ensures starved { is_alone (asked_of (words_as_bytes words.now)) ≡ true → result.0 ≡ status.Memory → IsBegun (command_of (words_as_bytes words.now)) (S.left out.source) (K.held out.sink) (K.held result.1.sink) }
-    ensures starved_off { is_alone (asked_of (words_as_bytes words.now)) ≡ true → result.0 ≡ status.Memory → (result.1.sink ≡ out.sink) ⊎ IsBegunFrom (command_of (words_as_bytes words.now)) (S.left out.source) (S.left result.1.source) (K.held out.sink) (K.held result.1.sink) }
+    ensures broken { is_alone (asked_of (words_as_bytes words.now)) ≡ true
+        → result.0 ≡ status.WriteFault
+        → IsBroken (command_of (words_as_bytes words.now)) (S.left out.source) (K.held out.sink)
+        (K.held result.1.sink) }
+    ensures broken_off { is_alone (asked_of (words_as_bytes words.now)) ≡ true
+        → result.0 ≡ status.WriteFault
+        → IsBrokenFrom (command_of (words_as_bytes words.now)) (S.left out.source)
+        (S.left result.1.source) (K.held out.sink) (K.held result.1.sink) }
+    ensures starved { is_alone (asked_of (words_as_bytes words.now)) ≡ true
+        → result.0 ≡ status.Memory
+        → IsBegun (command_of (words_as_bytes words.now)) (S.left out.source) (K.held out.sink)
+        (K.held result.1.sink) }
+    ensures starved_off { is_alone (asked_of (words_as_bytes words.now)) ≡ true
+        → result.0 ≡ status.Memory
+        → (result.1.sink ≡ out.sink) ⊎ IsBegunFrom (command_of (words_as_bytes words.now))
+        (S.left out.source) (S.left result.1.source) (K.held out.sink) (K.held result.1.sink) }
     ensures known { is_alone (asked_of (words_as_bytes words.now)) ≡ true → IsPlainEnd result.0 }
     ensures apart { is_alone (asked_of (words_as_bytes words.now)) ≡ true → (result.1.store ≡ out.store) × (result.1.files ≡ out.files) × (result.1.network ≡ out.network) }
-    ensures serves { (o : ServeOptions) → asked_of (words_as_bytes words.now) ≡ Some (ask.Serve o) → ServeEnds o (N.accepted out.network) (N.accepted result.1.network) (N.faults out.network) (N.faults result.1.network) (D.faults out.store) (D.faults result.1.store) (N.at result.1.network) (D.records out.store) (D.there out.store) (K.held out.sink) (K.held result.1.sink) result.0 }
+    ensures serves { (o : ServeOptions)
+        → asked_of (words_as_bytes words.now) ≡ Some (ask.Serve o)
+        → ServeEnds o (N.accepted out.network) (N.accepted result.1.network)
+        (N.faults out.network) (N.faults result.1.network) (D.faults out.store)
+        (D.faults result.1.store) (N.at result.1.network) (D.records out.store)
+        (D.there out.store) (K.held out.sink) (K.held result.1.sink) result.0 }
     ensures unfiled { (o : ServeOptions) → asked_of (words_as_bytes words.now) ≡ Some (ask.Serve o) → result.1.files ≡ out.files }
-    ensures mounts { (o : MountOptions) → asked_of (words_as_bytes words.now) ≡ Some (ask.Mount o) → MountEnds (is_some o.cache) (S.left out.source) (S.left result.1.source) (K.held out.sink) (K.held result.1.sink) (S.faults out.source) (S.faults result.1.source) (K.faults out.sink) (N.faults out.network) (N.faults result.1.network) (IsFaulty N.L.faults result.2) result.0 }
-    ensures saved { (o : MountOptions) → asked_of (words_as_bytes words.now) ≡ Some (ask.Mount o) → result.0 ≡ status.Done → IfSome o.cache (λ name. ∥ IsSaved o.drift o.keep name (record { files = F.files result.1.files; faults = F.faults result.1.files }) ∥₁) }
+    ensures mounts { (o : MountOptions)
+        → asked_of (words_as_bytes words.now) ≡ Some (ask.Mount o)
+        → MountEnds (is_some o.cache) (S.left out.source) (S.left result.1.source)
+        (K.held out.sink) (K.held result.1.sink) (S.faults out.source)
+        (S.faults result.1.source) (K.faults out.sink) (N.faults out.network)
+        (N.faults result.1.network) (IsFaulty N.L.faults result.2) result.0 }
+    ensures saved { (o : MountOptions) → asked_of (words_as_bytes words.now)
+        ≡ Some (ask.Mount o) → result.0 ≡ status.Done
+        → IfSome o.cache (λ name.
+        ∥ IsSaved o.drift o.keep name
+        (record { files = F.files result.1.files; faults = F.faults result.1.files }) ∥₁) }
     ensures unstored { (o : MountOptions) → asked_of (words_as_bytes words.now) ≡ Some (ask.Mount o) → result.1.store ≡ out.store }
-    ensures checks { (o : CheckOptions) → asked_of (words_as_bytes words.now) ≡ Some (ask.Check o) → CheckEnds o (D.faults out.store) (D.faults result.1.store) (D.records out.store) (D.there out.store) (K.held out.sink) (K.held result.1.sink) result.0 }
-    ensures unchanged { (o : CheckOptions) → asked_of (words_as_bytes words.now) ≡ Some (ask.Check o) → (D.records result.1.store ≡ D.records out.store) × (result.1.files ≡ out.files) × (result.1.network ≡ out.network) }
+    ensures checks { (o : CheckOptions)
+        → asked_of (words_as_bytes words.now) ≡ Some (ask.Check o)
+        → CheckEnds o (D.faults out.store) (D.faults result.1.store) (D.records out.store)
+        (D.there out.store) (K.held out.sink) (K.held result.1.sink) result.0 }
+    ensures unchanged { (o : CheckOptions)
+        → asked_of (words_as_bytes words.now) ≡ Some (ask.Check o)
+        → (D.records result.1.store ≡ D.records out.store) × (result.1.files ≡ out.files)
+        × (result.1.network ≡ out.network) }
     ensures network_fault { result.0 ≡ status.Network → Rose (N.faults out.network) (N.faults result.1.network) ⊎ IsFaulty N.L.faults result.2 }
     ensures store_fault { result.0 ≡ status.Store → StoreFails (D.faults out.store) (D.faults result.1.store) (D.records out.store) (K.held out.sink) (K.held result.1.sink) }
 {

@@ -15,13 +15,13 @@ use crate::telling::tell;
 use exit_status::status::Status;
 use lb_base::items::{Bytes, Items};
 use lb_base::sink::Sink;
-use lbfs_server::gate::OpenGate;
 use lbfs_server::serve::{ServeError, Served, serve};
 use limits::TERM_MOST;
 use links::clock::Clock;
 use links::network::Network;
 use links::rest::Rest;
 use program_words::asked::ServeOptions;
+use server_turns::gate::OpenGate;
 use std::alloc::{AllocError, Global};
 use std::fmt::Write;
 use std::sync::Wait;
@@ -100,7 +100,11 @@ pub(crate) fn run_serve<
 ) -> (Status, Outside<S, K, D, F, N, C, R>, Option<N::L>)
 where
     N::L: Drop + Send,
-    ensures serves { ServeEnds options.now (N.accepted out.network) (N.accepted result.1.network) (N.faults out.network) (N.faults result.1.network) (D.faults out.store) (D.faults result.1.store) (N.at result.1.network) (D.records out.store) (D.there out.store) (K.held out.sink) (K.held result.1.sink) result.0 }
+    ensures serves { ServeEnds options.now (N.accepted out.network)
+        (N.accepted result.1.network) (N.faults out.network) (N.faults result.1.network)
+        (D.faults out.store) (D.faults result.1.store) (N.at result.1.network)
+        (D.records out.store) (D.there out.store) (K.held out.sink)
+        (K.held result.1.sink) result.0 }
     ensures unread { result.1.source ≡ out.source }
     ensures unfiled { result.1.files ≡ out.files }
     ensures write_later { K.faults out.sink ≤ K.faults result.1.sink }
