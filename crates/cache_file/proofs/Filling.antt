@@ -121,3 +121,6 @@ none_past (c ∷ cs) (suc k) at = none_past cs k at
 pub no_content : (o : Option (ℕ × Bor (List ℕ))) (cs : List (ℕ × List ℕ)) (k : ℕ) → shown o ≡ slice_get cs k → ((p : ℕ × Bor (List ℕ)) → o ≡ Some p → ⊥) → slice_get cs k ≡ None
 no_content None cs k at none = sym at
 no_content (Some p) cs k at none = absurd (none p refl)
+
+-- what `item` goes by
+pub ruleset by_item = (seen_one, one, not_one)

@@ -81,7 +81,7 @@ impl Saving {
 
     /// Writes an item, where none with its digest was written and there is room for it; says whether there
     /// was. The one error is running out of memory.
-    #[tactic(auto, using(crate::proofs::Filling::seen_one, crate::proofs::Filling::one, crate::proofs::Filling::not_one))]
+    #[tactic(auto, using(crate::proofs::Filling::by_item))]
     fn item(&mut self, item: &[u8]) -> Result<bool, AllocError>
         ensures { IfOk result (λ goes. Puts self.old (item.now ∷ []) goes self.new) }
     {

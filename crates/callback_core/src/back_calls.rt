@@ -4,7 +4,8 @@ ghost use Rattle.std.specs.Prelude.{◌≡◌, [], ◌++◌, ◌∷◌, IfOk, On
 ghost use Rattle.std.specs.Option.{option_copied, option_map};
 ghost use Rattle.wire.specs.declared.message.Side.TheVariants.{Server};
 ghost use Rattle.wire.specs.declared.message.TheConstants.{LBFS_SERVED};
-ghost use Rattle.callback_core.specs.BackCalls.{unasked, with_recall, recalled_if, recall_pending, is_at, call_at, waiting_at, xid_at, with_call, asks, asks_if, answered_by, answered, hung, is_spent, spent};
+ghost use Rattle.callback_core.specs.BackCalls.{unasked, with_recall, recalled_if, recall_pending, is_at, call_at, waiting_at, xid_at, with_call, asks, asks_if, answered_by, answered, hung, is_spent};
+ghost use Rattle.callback_core.specs.BackCalls.{spent};
 
 use hash_calls::message::BackProc;
 use lb_base::items::Items;

@@ -31,7 +31,13 @@ impl<P: Drop> Model for Waits<P> {
 
     ghost Value = { Waiting P };
 
-    ghost view = { λ w. record { leases = w.leases.leases; spare = w.leases.room - length w.waits.items; room = min (w.leases.room - length w.waits.items) (vec_capacity w.waits - vec_len w.waits); waits = w.waits.items } };
+    ghost view = { λ w. record {
+      leases = w.leases.leases;
+      spare = w.leases.room - length w.waits.items;
+      room = min (w.leases.room - length w.waits.items)
+          (vec_capacity w.waits - vec_len w.waits);
+      waits = w.waits.items;
+    } };
 
     ghost invariant = { λ w. AreBounded w.waits.items w.leases.room };
 }

@@ -41,8 +41,14 @@ fn tell_hashes(
     term: u32,
     range: &HashRange,
 ) -> Result<Outcome, AllocError>
-    ensures ok { (temps : Known) (session : ℕ) → IfOk result (λ o. o.left_out ≡ false → calls tree.now.tree temps index.old session term (lb.GetHash range.now) ≡ record { temps = temps; index = index.new; answer = o.answer }) }
-    ensures lacks { (temps : Known) (session : ℕ) → IfOk result (λ o. o.left_out ≡ true → LeavesPlaces tree.now.tree temps index.old session term (lb.GetHash range.now) (record { temps = temps; index = index.new; answer = o.answer })) }
+    ensures ok { (temps : Known) (session : ℕ)
+        → IfOk result (λ o. o.left_out ≡ false
+        → calls tree.now.tree temps index.old session term (lb.GetHash range.now)
+        ≡ record { temps = temps; index = index.new; answer = o.answer }) }
+    ensures lacks { (temps : Known) (session : ℕ)
+        → IfOk result (λ o. o.left_out ≡ true
+        → LeavesPlaces tree.now.tree temps index.old session term (lb.GetHash range.now)
+        (record { temps = temps; index = index.new; answer = o.answer })) }
     ensures err { OnErr result (index.new ≡ index.old) }
     ensures takes { OnErr result (IsFile (node_of tree.now.tree range.now.handle)) }
 {

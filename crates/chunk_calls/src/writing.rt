@@ -124,7 +124,9 @@ pub fn cond_write(
     ensures ok { IfOk result (λ told. named tree.now.tree temps.old index.old piece.now (temp_at temps.old session piece.now.fd) ≡ record { temps = temps.new; index = index.new; answer = told }) }
     ensures err { OnErr result (temps.new ≡ temps.old) }
     ensures order { OnErr result (index.new ≡ found index.old (key_of piece.now.digest)) }
-    ensures takes { OnErr result ((cond_fault piece.now (temp_at temps.old session piece.now.fd) ≡ None) × IsSome (bytes_known tree.now.tree piece.now (place_of index.old.pairs (key_of piece.now.digest)))) }
+    ensures takes { OnErr result ((cond_fault piece.now (temp_at temps.old session piece.now.fd)
+        ≡ None) × IsSome (bytes_known tree.now.tree piece.now
+        (place_of index.old.pairs (key_of piece.now.digest)))) }
 {
     match cond_fault(temps, session, piece) {
         Some(status) => Ok(Answer::Failed(status, ())),
@@ -146,7 +148,9 @@ fn write_known(
     ensures ok { IfOk result (λ told. named tree.now.tree temps.old index.old piece.now (temp_at temps.old session piece.now.fd) ≡ record { temps = temps.new; index = index.new; answer = told }) }
     ensures err { OnErr result (temps.new ≡ temps.old) }
     ensures order { OnErr result (index.new ≡ found index.old (key_of piece.now.digest)) }
-    ensures takes { OnErr result ((cond_fault piece.now (temp_at temps.old session piece.now.fd) ≡ None) × IsSome (bytes_known tree.now.tree piece.now (place_of index.old.pairs (key_of piece.now.digest)))) }
+    ensures takes { OnErr result ((cond_fault piece.now (temp_at temps.old session piece.now.fd)
+        ≡ None) × IsSome (bytes_known tree.now.tree piece.now
+        (place_of index.old.pairs (key_of piece.now.digest)))) }
 {
     match indexing::look_up(index, tree, piece) {
         Some(bytes) => {

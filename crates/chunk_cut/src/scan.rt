@@ -16,7 +16,11 @@ const UNWATCHED: u64 = LEAST - WINDOW_LEN as u64;
 pub fn find_end(window: &mut Window, len: u64, piece: &[u8]) -> Option<usize>
     requires { len + length piece.now < 2 ^ 64 }
     ensures within { IfSome result (λ n. (0 < n) × (n ≤ length piece.now)) }
-    ensures end { (content : List ℕ) (s : ℕ) → IsUnderWay content s len window.old → MatchOption result (IsUnderWay (content ++ piece.now) s (len + length piece.now) window.new) (λ n. (length window.new ≡ 48) × IsLeastEnd (content ++ take n piece.now) s (length (content ++ take n piece.now))) }
+    ensures end { (content : List ℕ) (s : ℕ) → IsUnderWay content s len window.old
+        → MatchOption result (IsUnderWay (content ++ piece.now) s
+        (len + length piece.now) window.new)
+        (λ n. (length window.new ≡ 48)
+        × IsLeastEnd (content ++ take n piece.now) s (length (content ++ take n piece.now))) }
 {
     let skipped = unwatched(len, piece.len());
     let filled = skipped + WINDOW_LEN.min(piece.len() - skipped);
@@ -45,7 +49,12 @@ fn roll_on(len: u64, piece: &[u8], from: usize) -> Option<usize>
     requires within { (48 ≤ from) × (from ≤ length piece.now) }
     requires least { 2048 ≤ len + from }
     ensures within { IfSome result (λ n. (0 < n) × (n ≤ length piece.now)) }
-    ensures end { (content : List ℕ) (s : ℕ) → IsUnderWay (content ++ take from piece.now) s (len + from) (window_before piece.now from) → MatchOption result (IsUnderWay (content ++ piece.now) s (len + length piece.now) (window_before piece.now (length piece.now))) (λ n. IsLeastEnd (content ++ take n piece.now) s (length (content ++ take n piece.now))) }
+    ensures end { (content : List ℕ) (s : ℕ)
+        → IsUnderWay (content ++ take from piece.now) s (len + from)
+        (window_before piece.now from)
+        → MatchOption result (IsUnderWay (content ++ piece.now) s (len + length piece.now)
+        (window_before piece.now (length piece.now)))
+        (λ n. IsLeastEnd (content ++ take n piece.now) s (length (content ++ take n piece.now))) }
 {
     let mut print = fp(&piece[from - WINDOW_LEN..from]);
     'bytes: for i in from..piece.len() {

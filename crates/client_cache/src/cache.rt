@@ -3,7 +3,8 @@
 ghost use Rattle.std.specs.Prelude.{◌≡◌, ◌≤◌, ◌==◌, [], length, slice_get, nat_le, IfOk, OnOk, OnErr, IsSome};
 ghost use Rattle.std.specs.Option.{option_copied};
 ghost use Rattle.lru.specs.LruCache.{lru_cache};
-ghost use Rattle.client_cache.specs.Cache.{kept_of, content_of, fresh_of, bytes_at, reserved, with_content, with_note, without_note, without_content, notes, is_fresh, lent, shown, contents_in, kept_bytes, files_most};
+ghost use Rattle.client_cache.specs.Cache.{kept_of, content_of, fresh_of, bytes_at, reserved, with_content, with_note, without_note, without_content, notes, is_fresh, lent, shown, contents_in};
+ghost use Rattle.client_cache.specs.Cache.{kept_bytes, files_most};
 
 use crate::kept::{Content, Kept, Note};
 use chunk_index::place::Place;

@@ -3,7 +3,8 @@
 //! their order the server is ever further ahead, so of those within the term the first breaks the
 //! rule if any does. What holds of a window is `specs/Windows.antt`.
 
-ghost use Rattle.std.specs.Prelude.{◌≡◌, ℕ, ◌+◌, ◌-◌, ◌<◌, ◌≤◌, List, [], ◌∷◌, ◌++◌, length, take, true, false, All, vec_len, slice_index, slice_get, slice_index_or, Some, None, IfSome, IfNone, IfOk, IfErr, IsTrue, ◌↔◌, OnOk, OnErr, AllPairs};
+ghost use Rattle.std.specs.Prelude.{◌≡◌, ℕ, ◌+◌, ◌-◌, ◌<◌, ◌≤◌, List, [], ◌∷◌, ◌++◌, length, take, true, false, All, vec_len, slice_index, slice_get, slice_index_or, Some, None, IfSome, IfNone, IfOk};
+ghost use Rattle.std.specs.Prelude.{IfErr, IsTrue, ◌↔◌, OnOk, OnErr, AllPairs};
 ghost use Rattle.std.specs.List.{AllWithin};
 ghost use Rattle.clock_rule.specs.Clocks.{breaks, fault_of, drift_fault, Answers};
 ghost use Rattle.clock_rule.specs.Windows.{Covers, Rises, ArePassed, IsReach, AreLeast, Fits, IsWindowOf, HasNoWindow, IsWithWindow};

@@ -15,7 +15,10 @@ fn place_of(byte: u8, text: &[u8]) -> Option<usize>
 
 /// What stands before the first such byte, and after it.
 pub fn cut(byte: u8, text: &[u8]) -> Option<(&[u8], &[u8])>
-    ensures { MatchOption result (length text.now ≤ position_or_len (λ b. b == byte) text.now) (λ p. (position_or_len (λ b. b == byte) text.now < length text.now) × (p.0.now ≡ before_first (λ b. b == byte) text.now) × (p.1.now ≡ after_first (λ b. b == byte) text.now)) }
+    ensures { MatchOption result (length text.now ≤ position_or_len (λ b. b == byte) text.now)
+        (λ p. (position_or_len (λ b. b == byte) text.now < length text.now)
+        × (p.0.now ≡ before_first (λ b. b == byte) text.now)
+        × (p.1.now ≡ after_first (λ b. b == byte) text.now)) }
 {
     let place = place_of(byte, text)?;
     Some((&text[..place], &text[place + 1..]))

@@ -267,3 +267,30 @@ module _ (t : Tree) (held : Reservation) (id : ℕ) (content : List ℕ) where
       subst (λ y. IsStored (applied head first None records) y) (tree_is (replace t held id content) u r stepped)
       (subst (λ y. IsStored (applied head y None records) (replace t held id content).0) (sym first_is)
       (subst (λ y. IsStored (applied y (change.Content (record { id = id; version = version; bytes = content })) None records) (replace t held id content).0) (sym head_is) is)))
+
+-- what `make_file` goes by
+pub ruleset by_make_file = (step_done, created_failed, keeps_failed)
+
+-- what `create` goes by
+pub ruleset by_create = (create_refused, create_there, keeps_same)
+
+-- what `make_directory` goes by
+pub ruleset by_make_directory = (step_done, mkdir_failed, keeps_failed)
+
+-- what `remove` goes by
+pub ruleset by_remove = (step_done, remove_refused, remove_failed, keeps_failed, keeps_same)
+
+-- what `rmdir` goes by
+pub ruleset by_rmdir = (step_done, rmdir_refused, rmdir_failed, keeps_failed, keeps_same)
+
+-- what `move_free` goes by
+pub ruleset by_move_free = (step_done, free_failed, keeps_failed)
+
+-- what `move_over` goes by
+pub ruleset by_move_over = (step_done, over_failed, keeps_failed)
+
+-- what `rename` goes by
+pub ruleset by_rename = (rename_refused, rename_in_place, keeps_same)
+
+-- what `replace` goes by
+pub ruleset by_replace = (step_done, replace_refused, replace_failed, keeps_failed, keeps_same)

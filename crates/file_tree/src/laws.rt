@@ -14,8 +14,13 @@ ghost use Rattle.file_tree.specs.Step.{create, mkdir, remove, rmdir, rename, rep
 /// no id is given twice, whatever is removed.
 pub fn ids_come_once()
     ensures create { (t : Tree) (held : Reservation) (dir : ℕ) (name : List ℕ) (m : CreateMode) → t.next ≤ (create t held dir name m).0.next }
-    ensures made { (t : Tree) (held : Reservation) (dir : ℕ) (name : List ℕ) (m : CreateMode) (done : Changed) → create_plan t held dir name m ≡ Ok None → (create t held dir name m).1 ≡ Ok done → (done.id ≡ t.next) × ((create t held dir name m).0.next ≡ t.next + 1) }
-    ensures mkdir { (t : Tree) (held : Reservation) (dir : ℕ) (name : List ℕ) (done : Changed) → (mkdir t held dir name).1 ≡ Ok done → (done.id ≡ t.next) × ((mkdir t held dir name).0.next ≡ t.next + 1) }
+    ensures made { (t : Tree) (held : Reservation) (dir : ℕ) (name : List ℕ) (m : CreateMode)
+        (done : Changed) → create_plan t held dir name m ≡ Ok None
+        → (create t held dir name m).1 ≡ Ok done → (done.id ≡ t.next)
+        × ((create t held dir name m).0.next ≡ t.next + 1) }
+    ensures mkdir { (t : Tree) (held : Reservation) (dir : ℕ) (name : List ℕ) (done : Changed)
+        → (mkdir t held dir name).1 ≡ Ok done → (done.id ≡ t.next)
+        × ((mkdir t held dir name).0.next ≡ t.next + 1) }
     ensures remove { (t : Tree) (held : Reservation) (dir : ℕ) (name : List ℕ) → (remove t held dir name).0.next ≡ t.next }
     ensures rmdir { (t : Tree) (held : Reservation) (dir : ℕ) (name : List ℕ) → (rmdir t held dir name).0.next ≡ t.next }
     ensures rename { (t : Tree) (held : Reservation) (dir : ℕ) (name : List ℕ) (to : ℕ) (to_name : List ℕ) → (rename t held dir name to to_name).0.next ≡ t.next }
@@ -28,10 +33,31 @@ pub fn ids_come_once()
 #[tactic(auto, using(crate::proofs::lemmas::Stored::empty_stored))]
 pub fn calls_keep()
     ensures empty { IsStored [] empty }
-    ensures create { (t : Tree) (held : Reservation) (dir : ℕ) (name : List ℕ) (m : CreateMode) (records : List Kept) → IsStored records t → IsStored (with_given (create_gives t dir name (create_plan t held dir name m)) records) (create t held dir name m).0 }
-    ensures mkdir { (t : Tree) (held : Reservation) (dir : ℕ) (name : List ℕ) (records : List Kept) → IsStored records t → IsStored (with_given (mkdir_gives t dir name (may_mkdir t held dir name)) records) (mkdir t held dir name).0 }
-    ensures remove { (t : Tree) (held : Reservation) (dir : ℕ) (name : List ℕ) (records : List Kept) → IsStored records t → IsStored (with_given (remove_gives t dir (remove_plan t held dir name)) records) (remove t held dir name).0 }
-    ensures rmdir { (t : Tree) (held : Reservation) (dir : ℕ) (name : List ℕ) (records : List Kept) → IsStored records t → IsStored (with_given (remove_gives t dir (rmdir_plan t held dir name)) records) (rmdir t held dir name).0 }
-    ensures rename { (t : Tree) (held : Reservation) (dir : ℕ) (name : List ℕ) (to : ℕ) (to_name : List ℕ) (records : List Kept) → IsStored records t → IsStored (with_given (rename_gives t dir name to to_name (rename_plan t held dir name to to_name)) records) (rename t held dir name to to_name).0 }
-    ensures replace { (t : Tree) (held : Reservation) (id : ℕ) (content : List ℕ) (records : List Kept) → IsStored records t → IsStored (with_given (replace_gives t id content (replace_plan t held id (length content))) records) (replace t held id content).0 }
+    ensures create { (t : Tree) (held : Reservation) (dir : ℕ) (name : List ℕ) (m : CreateMode)
+        (records : List Kept) → IsStored records t
+        → IsStored (with_given
+        (create_gives t dir name (create_plan t held dir name m)) records)
+        (create t held dir name m).0 }
+    ensures mkdir { (t : Tree) (held : Reservation) (dir : ℕ) (name : List ℕ)
+        (records : List Kept) → IsStored records t
+        → IsStored (with_given (mkdir_gives t dir name (may_mkdir t held dir name)) records)
+        (mkdir t held dir name).0 }
+    ensures remove { (t : Tree) (held : Reservation) (dir : ℕ) (name : List ℕ)
+        (records : List Kept) → IsStored records t
+        → IsStored (with_given (remove_gives t dir (remove_plan t held dir name)) records)
+        (remove t held dir name).0 }
+    ensures rmdir { (t : Tree) (held : Reservation) (dir : ℕ) (name : List ℕ)
+        (records : List Kept) → IsStored records t
+        → IsStored (with_given (remove_gives t dir (rmdir_plan t held dir name)) records)
+        (rmdir t held dir name).0 }
+    ensures rename { (t : Tree) (held : Reservation) (dir : ℕ) (name : List ℕ) (to : ℕ)
+        (to_name : List ℕ) (records : List Kept) → IsStored records t
+        → IsStored (with_given
+        (rename_gives t dir name to to_name (rename_plan t held dir name to to_name)) records)
+        (rename t held dir name to to_name).0 }
+    ensures replace { (t : Tree) (held : Reservation) (id : ℕ) (content : List ℕ)
+        (records : List Kept) → IsStored records t
+        → IsStored (with_given
+        (replace_gives t id content (replace_plan t held id (length content))) records)
+        (replace t held id content).0 }
 {}

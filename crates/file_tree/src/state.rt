@@ -62,7 +62,12 @@ impl TreeState {
     fn clear(&mut self, dir: u64, name: &[u8])
         requires state { IsState self.old }
         requires there { IsSome (named self.old.nodes.nodes dir name.now) }
-        ensures cleared { (n : Node) → named self.old.nodes.nodes dir name.now ≡ Some n → self.new.nodes ≡ record self.old.nodes { nodes = without self.old.nodes.nodes n.id; room = self.new.nodes.room } }
+        ensures cleared { (n : Node) → named self.old.nodes.nodes dir name.now ≡ Some n
+            → self.new.nodes
+            ≡ record self.old.nodes {
+              nodes = without self.old.nodes.nodes n.id;
+              room = self.new.nodes.room;
+            } }
         ensures changes { self.new.changes ≡ self.old.changes }
         ensures gone { named self.new.nodes.nodes dir name.now ≡ None }
         ensures state { IsState self.new }
@@ -103,7 +108,9 @@ impl TreeState {
         requires count { (self.old.changes + more ≤ changes_most) × (0 < more) }
         requires there { IsSome (named self.old.nodes.nodes dir name.now) }
         requires fresh { named self.old.nodes.nodes to to_name ≡ None }
-        ensures moved { (n : Node) → named self.old.nodes.nodes dir name.now ≡ Some n → state_of self.new ≡ moved_at (state_of self.old) dir n self.old.nodes.nodes to to_name (self.old.changes + more) }
+        ensures moved { (n : Node) → named self.old.nodes.nodes dir name.now ≡ Some n
+            → state_of self.new ≡ moved_at
+            (state_of self.old) dir n self.old.nodes.nodes to to_name (self.old.changes + more) }
         ensures state { IsState self.new }
         ensures room { self.old.nodes.room ≤ self.new.nodes.room }
     {
@@ -133,7 +140,9 @@ impl TreeState {
         requires there { IsSome (named self.old.nodes.nodes dir name.now) }
         requires over { IsSome (named self.old.nodes.nodes to to_name) }
         requires other { (n m : Node) → named self.old.nodes.nodes dir name.now ≡ Some n → named self.old.nodes.nodes to to_name ≡ Some m → (n.id == m.id) ≡ false }
-        ensures moved { (n m : Node) → named self.old.nodes.nodes dir name.now ≡ Some n → named self.old.nodes.nodes to to_name ≡ Some m → state_of self.new ≡ moved (state_of self.old) dir n (Some m) to to_name }
+        ensures moved { (n m : Node) → named self.old.nodes.nodes dir name.now ≡ Some n
+            → named self.old.nodes.nodes to to_name ≡ Some m
+            → state_of self.new ≡ moved (state_of self.old) dir n (Some m) to to_name }
         ensures state { IsState self.new }
         ensures room { self.old.nodes.room ≤ self.new.nodes.room }
     {
@@ -175,7 +184,7 @@ fn let_go(node: Node) -> u64
 }
 
 /// How many bytes the nodes contain.
-#[tactic(auto, using(crate::proofs::lemmas::Limits::size_from, crate::proofs::lemmas::Limits::size_past))]
+#[tactic(auto, using(crate::proofs::lemmas::Limits::by_bytes_in))]
 fn bytes_in(nodes: &Nodes) -> u64
     requires { contents_size nodes.now.nodes ≤ tree_most }
     ensures { result ≡ contents_size nodes.now.nodes }

@@ -21,7 +21,7 @@ use tree_reading::call::{Changed, CreateMode, Planned, Reservation};
 use xdr_codec::status::Status;
 
 /// CREATE of a file that is to be made.
-#[tactic(auto, using(crate::proofs::Stepping::step_done, crate::proofs::Stepping::created_failed, crate::proofs::Stepping::keeps_failed))]
+#[tactic(auto, using(crate::proofs::Stepping::by_make_file))]
 fn make_file<S: Store>(
     tree: &mut Tree,
     store: &mut S,
@@ -65,7 +65,7 @@ fn make_file<S: Store>(
 }
 
 /// CREATE. It needs two places in the store, and one node's in the tree.
-#[tactic(auto, using(crate::proofs::Stepping::create_refused, crate::proofs::Stepping::create_there, crate::proofs::Stepping::keeps_same))]
+#[tactic(auto, using(crate::proofs::Stepping::by_create))]
 pub fn create<S: Store>(
     tree: &mut Tree,
     store: &mut S,
@@ -90,7 +90,7 @@ pub fn create<S: Store>(
 }
 
 /// MKDIR of a directory that is to be made.
-#[tactic(auto, using(crate::proofs::Stepping::step_done, crate::proofs::Stepping::mkdir_failed, crate::proofs::Stepping::keeps_failed))]
+#[tactic(auto, using(crate::proofs::Stepping::by_make_directory))]
 fn make_directory<S: Store>(
     tree: &mut Tree,
     store: &mut S,
@@ -145,7 +145,7 @@ pub fn mkdir<S: Store>(
 }
 
 /// REMOVE, once nothing blocks it. It needs one place in the store.
-#[tactic(auto, using(crate::proofs::Stepping::step_done, crate::proofs::Stepping::remove_refused, crate::proofs::Stepping::remove_failed, crate::proofs::Stepping::keeps_failed, crate::proofs::Stepping::keeps_same))]
+#[tactic(auto, using(crate::proofs::Stepping::by_remove))]
 pub fn remove<S: Store>(
     tree: &mut Tree,
     store: &mut S,
@@ -173,7 +173,7 @@ pub fn remove<S: Store>(
 }
 
 /// RMDIR. It needs one place in the store.
-#[tactic(auto, using(crate::proofs::Stepping::step_done, crate::proofs::Stepping::rmdir_refused, crate::proofs::Stepping::rmdir_failed, crate::proofs::Stepping::keeps_failed, crate::proofs::Stepping::keeps_same))]
+#[tactic(auto, using(crate::proofs::Stepping::by_rmdir))]
 pub fn rmdir<S: Store>(
     tree: &mut Tree,
     store: &mut S,
@@ -245,7 +245,7 @@ fn moved_record(tree: &Tree, dir: u64, name: &[u8], to: u64, to_name: Name) -> N
 }
 
 /// RENAME to a name that is free.
-#[tactic(auto, using(crate::proofs::Stepping::step_done, crate::proofs::Stepping::free_failed, crate::proofs::Stepping::keeps_failed))]
+#[tactic(auto, using(crate::proofs::Stepping::by_move_free))]
 fn move_free<S: Store>(
     tree: &mut Tree,
     store: &mut S,
@@ -276,7 +276,7 @@ fn move_free<S: Store>(
 }
 
 /// RENAME to the name of another node, which goes.
-#[tactic(auto, using(crate::proofs::Stepping::step_done, crate::proofs::Stepping::over_failed, crate::proofs::Stepping::keeps_failed))]
+#[tactic(auto, using(crate::proofs::Stepping::by_move_over))]
 fn move_over<S: Store>(
     tree: &mut Tree,
     store: &mut S,
@@ -313,7 +313,7 @@ fn move_over<S: Store>(
 }
 
 /// RENAME, once nothing blocks it. It needs two places in the store.
-#[tactic(auto, using(crate::proofs::Stepping::rename_refused, crate::proofs::Stepping::rename_in_place, crate::proofs::Stepping::keeps_same))]
+#[tactic(auto, using(crate::proofs::Stepping::by_rename))]
 pub fn rename<S: Store>(
     tree: &mut Tree,
     store: &mut S,
@@ -340,7 +340,7 @@ pub fn rename<S: Store>(
 
 /// A file gets another content, once nothing blocks it. It needs one place in the store, which is
 /// another owner of the same bytes.
-#[tactic(auto, using(crate::proofs::Stepping::step_done, crate::proofs::Stepping::replace_refused, crate::proofs::Stepping::replace_failed, crate::proofs::Stepping::keeps_failed, crate::proofs::Stepping::keeps_same))]
+#[tactic(auto, using(crate::proofs::Stepping::by_replace))]
 pub fn replace<S: Store>(
     tree: &mut Tree,
     store: &mut S,

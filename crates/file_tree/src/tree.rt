@@ -186,7 +186,7 @@ impl Tree {
     }
 
     /// REMOVE, once nothing blocks it. It takes no memory.
-    #[tactic(auto, using(crate::proofs::lemmas::Limits::bounds, tree_reading::proofs::lemmas::Admitted::remove_there))]
+    #[tactic(auto, using(crate::proofs::lemmas::Limits::by_remove))]
     pub fn remove(&mut self, dir: u64, name: &[u8], held: Reservation) -> Result<Changed, Status>
         ensures done { remove self.old.tree held dir name.now ≡ (self.new.tree, result) }
         ensures room { self.old.room ≤ self.new.room }
@@ -198,7 +198,7 @@ impl Tree {
     }
 
     /// RMDIR. It takes no memory.
-    #[tactic(auto, using(crate::proofs::lemmas::Limits::bounds, tree_reading::proofs::lemmas::Admitted::rmdir_there))]
+    #[tactic(auto, using(crate::proofs::lemmas::Limits::by_rmdir))]
     pub fn rmdir(&mut self, dir: u64, name: &[u8], held: Reservation) -> Result<Changed, Status>
         ensures done { rmdir self.old.tree held dir name.now ≡ (self.new.tree, result) }
         ensures room { self.old.room ≤ self.new.room }
@@ -225,7 +225,7 @@ impl Tree {
     }
 
     /// COMMITTMP, once its content is whole and nothing blocks it. It takes no memory.
-    #[tactic(auto, using(crate::proofs::lemmas::Limits::bounds, tree_reading::proofs::lemmas::Admitted::replace_there))]
+    #[tactic(auto, using(crate::proofs::lemmas::Limits::by_replace))]
     pub fn replace(
         &mut self,
         id: u64,

@@ -78,7 +78,11 @@ fn apply_edits<'a, D: Folder>(
     first: (Edit<'a>, Option<Edit<'a>>),
     second: Option<(Edit<'a>, Option<Edit<'a>>)>,
 ) -> Result<(), Unfinished>
-    ensures { D.told → (records : Records) (past : List Records) → HoldsRecords records past store.old.pending.items store.old.doubt (D.state store.old.folder) → store.old.doubt ≡ false → AppliedThese (edited head.entry ∷ (one_or_two first.entry ++ two_or_none second.entry)) records past store.new.pending.items store.new.doubt (D.state store.old.folder) (D.state store.new.folder) result }
+    ensures { D.told → (records : Records) (past : List Records)
+        → HoldsRecords records past store.old.pending.items store.old.doubt
+        (D.state store.old.folder) → store.old.doubt ≡ false
+        → AppliedThese (edited head.entry ∷
+        (one_or_two first.entry ++ two_or_none second.entry)) records past store.new.pending.items store.new.doubt (D.state store.old.folder) (D.state store.new.folder) result }
 {
     let (one, more) = first;
     match (more, second) {
@@ -101,7 +105,11 @@ pub(crate) fn apply_change<D: Folder>(
     second: &Option<RecordChange>,
     are_large: (bool, bool),
 ) -> Result<(), Unfinished>
-    ensures { D.told → (records : Records) (past : List Records) → HoldsRecords records past store.old.pending.items store.old.doubt (D.state store.old.folder) → store.old.doubt ≡ false → AppliedThese (edits_in head first.now second.now) records past store.new.pending.items store.new.doubt (D.state store.old.folder) (D.state store.new.folder) result }
+    ensures { D.told → (records : Records) (past : List Records)
+        → HoldsRecords records past store.old.pending.items store.old.doubt
+        (D.state store.old.folder) → store.old.doubt ≡ false
+        → AppliedThese
+        (edits_in head first.now second.now) records past store.new.pending.items store.new.doubt (D.state store.old.folder) (D.state store.new.folder) result }
 {
     let bytes = head_bytes(head);
     let head = Edit {

@@ -134,7 +134,9 @@ pub fn read_hashes(
 /// part of it.
 pub fn write_hashes(writer: &mut Writer, answer: &Answer<Hashes, ()>) -> Result<(), AllocError>
     ensures spelled { OnOk result (writer.new ≡ writer.old ++ (answer_form (hashes_form 1) (nothing tt)).spell answer.now) }
-    ensures fits { OnOk result ((v : ℕ) → short_answer (λ h. (length h.pairs ≤ PAIRS_MOST) × All (IsNamedIn v) h.pairs) (λ _. Unit {0}) answer.now → (answer_form (hashes_form v) (nothing tt)).Fits answer.now) }
+    ensures fits { OnOk result ((v : ℕ)
+        → short_answer (λ h. (length h.pairs ≤ PAIRS_MOST) × All (IsNamedIn v) h.pairs)
+        (λ _. Unit {0}) answer.now → (answer_form (hashes_form v) (nothing tt)).Fits answer.now) }
 {
     match answer {
         Answer::Done(hashes) => {

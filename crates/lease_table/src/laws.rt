@@ -26,7 +26,9 @@ pub fn leases_are_safe()
     ensures start { (m : Machine) → IsNew m → IsKept m }
     ensures time { (m : Machine) (new : Clocked) → IsLater m.clocks new → IsKept m → IsKept (record m { clocks = new }) }
     ensures event { (m : Machine) (e : Event) → IsTimed m e → IsKept m → IsKept (happens m e) }
-    ensures elsewhere { (m : Machine) (leases : List Lease) (next : ℕ) → AreOrdered leases → lease_at leases m.session m.file ≡ lease_at m.leases m.session m.file → m.next ≤ next → IsKept m → IsKept (record m { leases = leases; next = next }) }
+    ensures elsewhere { (m : Machine) (leases : List Lease) (next : ℕ) → AreOrdered leases
+        → lease_at leases m.session m.file ≡ lease_at m.leases m.session m.file → m.next ≤ next
+        → IsKept m → IsKept (record m { leases = leases; next = next }) }
     ensures forgotten { (m : Machine) (now : ℕ) → now ≤ m.clocks.server → IsKept m → IsKept (record m { leases = without_ended m.leases now }) }
     ensures open { (m : Machine) (seen : ℕ) (n : Note) → IsKept m → IsNoted m seen → m.note ≡ Some n → seen < n.until → n.version ≡ m.version }
 {}

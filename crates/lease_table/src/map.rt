@@ -156,7 +156,10 @@ impl<K: Ord + Copy + Drop, V: Copy + Drop> ReservedMap<K, V> {
     /// It takes no memory.
     pub fn parts(&self, first: K, last: K) -> (Range<'_, K, V>, &[(K, V)])
         requires { IsLeBy K.cmp first last }
-        ensures { (t : K × V → Bool) → list_any t (entries_between K.cmp (Included first) (Included last) self.now.entries) ≡ (list_any (λ e. range_contains K.cmp (Included first) (Included last) e.0 && t e) result.1.now || list_any t result.0) }
+        ensures { (t : K × V → Bool) → list_any t
+            (entries_between K.cmp (Included first) (Included last) self.now.entries)
+            ≡ (list_any (λ e. range_contains K.cmp (Included first) (Included last) e.0
+            && t e) result.1.now || list_any t result.0) }
     {
         (self.map.range(first..=last), self.spare.as_slice())
     }

@@ -2,7 +2,8 @@
 //! never fails. Their states stand in `specs/Memory.antt`, what a call makes of them in
 //! `specs/Files.antt`.
 
-ghost use Rattle.std.specs.Prelude.{◌≡◌, ℕ, ◌+◌, ◌-◌, ◌^◌, ◌≤◌, ◌<◌, ◌↔◌, ◌⊎◌, if◌then◌else◌, List, [], ◌∷◌, length, drop, min, Contains, Option, Some, None, Ok, Err, IfOk, OnOk, OnErr, IfSome, IsOk, IsErr, IsErrOf, IsTrue, is_err, true, false, not};
+ghost use Rattle.std.specs.Prelude.{◌≡◌, ℕ, ◌+◌, ◌-◌, ◌^◌, ◌≤◌, ◌<◌, ◌↔◌, ◌⊎◌, if◌then◌else◌, List, [], ◌∷◌, length, drop, min, Contains, Option, Some, None, Ok, Err, IfOk, OnOk, OnErr, IfSome, IsOk};
+ghost use Rattle.std.specs.Prelude.{IsErr, IsErrOf, IsTrue, is_err, true, false, not};
 ghost use Rattle.std.specs.List.{filter};
 ghost use Rattle.std.specs.Vec.{vec_capacity};
 ghost use Rattle.std.specs.Option.{option_map};

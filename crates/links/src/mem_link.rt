@@ -1,7 +1,8 @@
 //! Links in memory, which tell what is left to come and what they were given: one that fails when
 //! told to, and its twin type that never fails. Their states stand in `specs/Memory.antt`.
 
-ghost use Rattle.std.specs.Prelude.{◌≡◌, ℕ, ◌+◌, ◌-◌, ◌^◌, ◌≤◌, ◌<◌, ◌↔◌, if◌then◌else◌, List, [], ◌++◌, length, take, min, Contains, Option, Some, Ok, IfOk, OnOk, OnErr, IsOk, IsErr, IsErrOf, is_err, true, false};
+ghost use Rattle.std.specs.Prelude.{◌≡◌, ℕ, ◌+◌, ◌-◌, ◌^◌, ◌≤◌, ◌<◌, ◌↔◌, if◌then◌else◌, List, [], ◌++◌, length, take, min, Contains, Option, Some, Ok, IfOk, OnOk, OnErr, IsOk, IsErr, IsErrOf};
+ghost use Rattle.std.specs.Prelude.{is_err, true, false};
 ghost use Rattle.std.specs.Io.KnownBytes.{ReadConsumes, WriteAppends};
 ghost use Rattle.lb_base.specs.Causes.{Rose};
 ghost use Rattle.lb_base.specs.Memory.{SourceState, SinkState};

@@ -1,7 +1,8 @@
 //! Networks in memory: one that fails when told to, and its twin type that never fails. Their states
 //! stand in `specs/Memory.antt`.
 
-ghost use Rattle.std.specs.Prelude.{◌≡◌, ℕ, ◌+◌, ◌-◌, ◌^◌, ◌≤◌, ◌<◌, ◌↔◌, ◌⊎◌, if◌then◌else◌, List, [], ◌∷◌, min, Contains, Option, Some, None, Ok, Err, IfOk, OnOk, OnErr, IsOk, IsErr, IsErrOf, is_err};
+ghost use Rattle.std.specs.Prelude.{◌≡◌, ℕ, ◌+◌, ◌-◌, ◌^◌, ◌≤◌, ◌<◌, ◌↔◌, ◌⊎◌, if◌then◌else◌, List, [], ◌∷◌, min, Contains, Option, Some, None, Ok, Err, IfOk, OnOk, OnErr, IsOk, IsErr, IsErrOf};
+ghost use Rattle.std.specs.Prelude.{is_err};
 ghost use Rattle.lb_base.specs.Causes.{Rose};
 ghost use Rattle.links.specs.Memory.{LinkState, next_sure, no_sure_link};
 ghost use Rattle.links.specs.declared.network.AcceptError.TheVariants as errors;

@@ -227,3 +227,6 @@ staged_front xs d le records past pending old mid new r a b =
 pub get_first : (xs : List Edit) → 1 ≤ length xs → Edit
 get_first [] le = absurd (omega arith)
 get_first (a ∷ rest) le = a
+
+-- what `stage` goes by
+pub ruleset by_stage = (clear_first, clear_later, staged_on)

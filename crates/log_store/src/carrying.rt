@@ -32,7 +32,9 @@ pub(crate) fn write_firm<D: Folder>(
 
 /// Gives a record its bytes, which are flushed later.
 fn put<D: Folder>(folder: &mut D, which: Which, bytes: &[u8]) -> Result<(), Fault>
-    ensures does { D.told → (records : Records) → IsFirm records (D.state folder.old) → task_of (D.state folder.old).entries which ≡ Some (task.Put bytes.now) → LineDone records which (D.state folder.old) (D.state folder.new) result }
+    ensures does { D.told → (records : Records) → IsFirm records (D.state folder.old)
+        → task_of (D.state folder.old).entries which ≡ Some (task.Put bytes.now)
+        → LineDone records which (D.state folder.old) (D.state folder.new) result }
     ensures later { D.faults folder.old ≤ D.faults folder.new }
     ensures cause { OnErr result (Rose (D.faults folder.old) (D.faults folder.new)) }
 {
@@ -42,7 +44,9 @@ fn put<D: Folder>(folder: &mut D, which: Which, bytes: &[u8]) -> Result<(), Faul
 
 /// Removes a record's files.
 fn drop_record<D: Folder>(folder: &mut D, which: Which) -> Result<(), Fault>
-    ensures does { D.told → (records : Records) → IsFirm records (D.state folder.old) → task_of (D.state folder.old).entries which ≡ Some task.Goes → LineDone records which (D.state folder.old) (D.state folder.new) result }
+    ensures does { D.told → (records : Records) → IsFirm records (D.state folder.old)
+        → task_of (D.state folder.old).entries which ≡ Some task.Goes
+        → LineDone records which (D.state folder.old) (D.state folder.new) result }
     ensures later { D.faults folder.old ≤ D.faults folder.new }
     ensures cause { OnErr result (Rose (D.faults folder.old) (D.faults folder.new)) }
 {
@@ -52,7 +56,9 @@ fn drop_record<D: Folder>(folder: &mut D, which: Which) -> Result<(), Fault>
 
 /// Carries out what the log says last of a record.
 fn carry_line<D: Folder>(folder: &mut D, line: &Line) -> Result<(), Fault>
-    ensures does { D.told → (records : Records) → IsFirm records (D.state folder.old) → task_of (D.state folder.old).entries line.now.which ≡ Some line.now.task → LineDone records line.now.which (D.state folder.old) (D.state folder.new) result }
+    ensures does { D.told → (records : Records) → IsFirm records (D.state folder.old)
+        → task_of (D.state folder.old).entries line.now.which ≡ Some line.now.task
+        → LineDone records line.now.which (D.state folder.old) (D.state folder.new) result }
     ensures later { D.faults folder.old ≤ D.faults folder.new }
     ensures cause { OnErr result (Rose (D.faults folder.old) (D.faults folder.new)) }
 {
@@ -65,7 +71,9 @@ fn carry_line<D: Folder>(folder: &mut D, line: &Line) -> Result<(), Fault>
 
 /// Carries out a line, if none of those behind it is of the same record.
 fn carry_last<D: Folder>(folder: &mut D, line: &Line, rest: &[Line]) -> Result<(), Fault>
-    ensures does { D.told → (records : Records) → IsFirm records (D.state folder.old) → IsRest (line.now ∷ rest.now) records (D.state folder.old) → Passed rest.now records (D.state folder.old) (D.state folder.new) result }
+    ensures does { D.told → (records : Records) → IsFirm records (D.state folder.old)
+        → IsRest (line.now ∷ rest.now) records (D.state folder.old)
+        → Passed rest.now records (D.state folder.old) (D.state folder.new) result }
     ensures later { D.faults folder.old ≤ D.faults folder.new }
     ensures cause { OnErr result (Rose (D.faults folder.old) (D.faults folder.new)) }
 {
@@ -77,7 +85,9 @@ fn carry_last<D: Folder>(folder: &mut D, line: &Line, rest: &[Line]) -> Result<(
 
 /// Carries out the lines that are the last of their records.
 fn redo<D: Folder>(folder: &mut D, lines: &[Line]) -> Result<(), Fault>
-    ensures does { D.told → (records : Records) → IsFirm records (D.state folder.old) → IsRest lines.now records (D.state folder.old) → Redone records (D.state folder.old) (D.state folder.new) result }
+    ensures does { D.told → (records : Records) → IsFirm records (D.state folder.old)
+        → IsRest lines.now records (D.state folder.old)
+        → Redone records (D.state folder.old) (D.state folder.new) result }
     ensures later { D.faults folder.old ≤ D.faults folder.new }
     ensures cause { OnErr result (Rose (D.faults folder.old) (D.faults folder.new)) }
 {
@@ -93,7 +103,10 @@ fn redo<D: Folder>(folder: &mut D, lines: &[Line]) -> Result<(), Fault>
 /// Carries the log out, of which these are all lines. It is on the disk before any record's file is
 /// touched, and what it did is on the disk behind it.
 pub(crate) fn finish<D: Folder>(folder: &mut D, lines: &[Line]) -> Result<(), Fault>
-    ensures does { D.told → (records : Records) (past : List Records) (pending : List Which) → IsSound records past pending (D.state folder.old) → lines.now ≡ all_lines (D.state folder.old).entries → Finished records past pending (D.state folder.old) (D.state folder.new) result }
+    ensures does { D.told → (records : Records) (past : List Records) (pending : List Which)
+        → IsSound records past pending (D.state folder.old)
+        → lines.now ≡ all_lines (D.state folder.old).entries
+        → Finished records past pending (D.state folder.old) (D.state folder.new) result }
     ensures later { D.faults folder.old ≤ D.faults folder.new }
     ensures cause { OnErr result (Rose (D.faults folder.old) (D.faults folder.new)) }
 {
@@ -144,7 +157,10 @@ impl From<StoreError> for Unfinished {
 
 /// Carries the log out, of which these are all lines, and empties it.
 fn finish_and_empty<D: Folder>(folder: &mut D, lines: &[Line]) -> Result<(), Unfinished>
-    ensures does { D.told → (records : Records) (past : List Records) (pending : List Which) → IsSound records past pending (D.state folder.old) → lines.now ≡ all_lines (D.state folder.old).entries → Carried records past pending (D.state folder.old) (D.state folder.new) result }
+    ensures does { D.told → (records : Records) (past : List Records) (pending : List Which)
+        → IsSound records past pending (D.state folder.old)
+        → lines.now ≡ all_lines (D.state folder.old).entries
+        → Carried records past pending (D.state folder.old) (D.state folder.new) result }
     ensures later { D.faults folder.old ≤ D.faults folder.new }
     ensures failed { IsErrOf result unfinished.Failed → Rose (D.faults folder.old) (D.faults folder.new) }
     ensures doubt { IsErrOf result unfinished.InDoubt → Rose (D.faults folder.old) (D.faults folder.new) }
@@ -160,7 +176,9 @@ fn finish_and_empty<D: Folder>(folder: &mut D, lines: &[Line]) -> Result<(), Unf
 
 /// Carries the log out, and empties it.
 pub(crate) fn carry_out<D: Folder>(folder: &mut D, alloc: Global) -> Result<(), Unfinished>
-    ensures does { D.told → (records : Records) (past : List Records) (pending : List Which) → IsSound records past pending (D.state folder.old) → Carried records past pending (D.state folder.old) (D.state folder.new) result }
+    ensures does { D.told → (records : Records) (past : List Records) (pending : List Which)
+        → IsSound records past pending (D.state folder.old)
+        → Carried records past pending (D.state folder.old) (D.state folder.new) result }
     ensures later { D.faults folder.old ≤ D.faults folder.new }
     ensures failed { IsErrOf result unfinished.Failed → Rose (D.faults folder.old) (D.faults folder.new) }
     ensures doubt { IsErrOf result unfinished.InDoubt → Rose (D.faults folder.old) (D.faults folder.new) }

@@ -29,7 +29,9 @@ fn catch_up<D: Folder>(folder: &mut D) -> Result<(), Fault>
 
 /// Carries out what a cut or a kill left of a log.
 pub(crate) fn rest<D: Folder>(folder: &mut D, alloc: Global) -> Result<(), StoreError>
-    ensures does { D.told → (c : Files) (l : Log) (records : Records) (past : List Records) → IsLeft c l past (D.state folder.old) → Loads l c records → Rested records past (D.state folder.old) (D.state folder.new) result }
+    ensures does { D.told → (c : Files) (l : Log) (records : Records) (past : List Records)
+        → IsLeft c l past (D.state folder.old) → Loads l c records
+        → Rested records past (D.state folder.old) (D.state folder.new) result }
     ensures later { D.faults folder.old ≤ D.faults folder.new }
     ensures cause { IsErrOf result errors.Failed → Rose (D.faults folder.old) (D.faults folder.new) }
 {
@@ -104,7 +106,9 @@ pub(crate) fn sweep<D: Folder>(folder: &mut D, alloc: Global) -> Result<Vec<Whic
 
 /// Carries all out; the folder then holds the records' files alone.
 pub(crate) fn close<D: Folder>(folder: &mut D, alloc: Global) -> Result<(), Unfinished>
-    ensures does { D.told → (records : Records) (past : List Records) (pending : List Which) → IsSound records past pending (D.state folder.old) → Closed records past (D.state folder.old) (D.state folder.new) result }
+    ensures does { D.told → (records : Records) (past : List Records) (pending : List Which)
+        → IsSound records past pending (D.state folder.old)
+        → Closed records past (D.state folder.old) (D.state folder.new) result }
     ensures later { D.faults folder.old ≤ D.faults folder.new }
     ensures failed { IsErrOf result unfinished.Failed → Rose (D.faults folder.old) (D.faults folder.new) }
     ensures in_doubt { IsErrOf result unfinished.InDoubt → Rose (D.faults folder.old) (D.faults folder.new) }

@@ -33,7 +33,12 @@ pub struct LogStore<D> {
 impl<D: Folder> LogStore<D> {
     /// Carries the log out. Where it isn't known whether it was emptied, the store is in doubt.
     fn carry_out(&mut self) -> Result<(), Unfinished>
-        ensures does { D.told → (records : Records) (past : List Records) → self.old.doubt ≡ false → HoldsRecords records past self.old.pending.items self.old.doubt (D.state self.old.folder) → Relieved records past self.new.pending.items self.new.doubt (D.state self.old.folder) (D.state self.new.folder) }
+        ensures does { D.told → (records : Records) (past : List Records)
+            → self.old.doubt ≡ false
+            → HoldsRecords records past self.old.pending.items self.old.doubt
+            (D.state self.old.folder)
+            → Relieved records past self.new.pending.items self.new.doubt
+            (D.state self.old.folder) (D.state self.new.folder) }
         ensures empty { OnOk result ((self.new.pending.items ≡ []) × (self.new.doubt ≡ false)) }
         ensures kept { OnErr result (self.new.pending.items ≡ self.old.pending.items) }
         ensures later { D.faults self.old.folder ≤ D.faults self.new.folder }
@@ -58,7 +63,12 @@ impl<D: Folder> LogStore<D> {
 
     /// Carries the log out, if it can be.
     fn relieve(&mut self) -> Result<(), Unfinished>
-        ensures does { D.told → (records : Records) (past : List Records) → self.old.doubt ≡ false → HoldsRecords records past self.old.pending.items self.old.doubt (D.state self.old.folder) → Relieved records past self.new.pending.items self.new.doubt (D.state self.old.folder) (D.state self.new.folder) }
+        ensures does { D.told → (records : Records) (past : List Records)
+            → self.old.doubt ≡ false
+            → HoldsRecords records past self.old.pending.items self.old.doubt
+            (D.state self.old.folder)
+            → Relieved records past self.new.pending.items self.new.doubt
+            (D.state self.old.folder) (D.state self.new.folder) }
         ensures sure { OnOk result (self.new.doubt ≡ false) }
         ensures pending { (self.new.pending.items ≡ []) ⊎ (self.new.pending.items ≡ self.old.pending.items) }
         ensures later { D.faults self.old.folder ≤ D.faults self.new.folder }
@@ -90,7 +100,12 @@ impl<D: Folder> LogStore<D> {
     /// Makes room for edits, where it is scarce: the log is carried out, and room kept again for what
     /// finds none. Edits that need none go on without.
     fn save_room(&mut self, edits: &[Edit<'_>]) -> Result<(), Unfinished>
-        ensures does { D.told → (records : Records) (past : List Records) → self.old.doubt ≡ false → HoldsRecords records past self.old.pending.items self.old.doubt (D.state self.old.folder) → Relieved records past self.new.pending.items self.new.doubt (D.state self.old.folder) (D.state self.new.folder) }
+        ensures does { D.told → (records : Records) (past : List Records)
+            → self.old.doubt ≡ false
+            → HoldsRecords records past self.old.pending.items self.old.doubt
+            (D.state self.old.folder)
+            → Relieved records past self.new.pending.items self.new.doubt
+            (D.state self.old.folder) (D.state self.new.folder) }
         ensures sure { self.old.doubt ≡ false → OnOk result (self.new.doubt ≡ false) }
         ensures pending { (self.new.pending.items ≡ []) ⊎ (self.new.pending.items ≡ self.old.pending.items) }
         ensures later { D.faults self.old.folder ≤ D.faults self.new.folder }
@@ -110,7 +125,12 @@ impl<D: Folder> LogStore<D> {
 
     /// Brings the log to where edits may be added: it names no new file that they write.
     fn make_way(&mut self, edits: &[Edit<'_>]) -> Result<(), Unfinished>
-        ensures does { D.told → (records : Records) (past : List Records) → self.old.doubt ≡ false → HoldsRecords records past self.old.pending.items self.old.doubt (D.state self.old.folder) → Relieved records past self.new.pending.items self.new.doubt (D.state self.old.folder) (D.state self.new.folder) }
+        ensures does { D.told → (records : Records) (past : List Records)
+            → self.old.doubt ≡ false
+            → HoldsRecords records past self.old.pending.items self.old.doubt
+            (D.state self.old.folder)
+            → Relieved records past self.new.pending.items self.new.doubt
+            (D.state self.old.folder) (D.state self.new.folder) }
         ensures sure { self.old.doubt ≡ false → OnOk result (self.new.doubt ≡ false) }
         ensures clear { OnOk result (is_clear edits.now self.new.pending.items ≡ true) }
         ensures later { D.faults self.old.folder ≤ D.faults self.new.folder }
@@ -131,7 +151,11 @@ impl<D: Folder> LogStore<D> {
     /// once the folder's log was flushed. `Ok` says that it was made. An error comes where a call failed or
     /// memory ran out, and nothing is changed then; `InDoubt` where that isn't known, and from then on.
     pub fn apply(&mut self, edits: &[Edit<'_>]) -> Result<(), Unfinished>
-        ensures does { D.told → (records : Records) (past : List Records) → HoldsRecords records past self.old.pending.items self.old.doubt (D.state self.old.folder) → self.old.doubt ≡ false → Applied edits.now records past self.new.pending.items self.new.doubt (D.state self.old.folder) (D.state self.new.folder) result }
+        ensures does { D.told → (records : Records) (past : List Records)
+            → HoldsRecords records past self.old.pending.items self.old.doubt
+            (D.state self.old.folder) → self.old.doubt ≡ false
+            → Applied edits.now records past self.new.pending.items self.new.doubt
+            (D.state self.old.folder) (D.state self.new.folder) result }
         ensures made { OnOk result (self.old.doubt ≡ false) }
         ensures known { doubts result ≡ self.new.doubt }
         ensures later { D.faults self.old.folder ≤ D.faults self.new.folder }
@@ -148,7 +172,11 @@ impl<D: Folder> LogStore<D> {
     /// Adds a change. Where that failed and the log has entries, it is carried out, which may give room
     /// back, and the change is added once more.
     fn add_or_again(&mut self, edits: &[Edit<'_>]) -> Result<(), Unfinished>
-        ensures does { D.told → (records : Records) (past : List Records) → IsSound records past self.old.pending.items (D.state self.old.folder) → is_clear edits.now self.old.pending.items ≡ true → self.old.doubt ≡ false → Applied edits.now records past self.new.pending.items self.new.doubt (D.state self.old.folder) (D.state self.new.folder) result }
+        ensures does { D.told → (records : Records) (past : List Records)
+            → IsSound records past self.old.pending.items (D.state self.old.folder)
+            → is_clear edits.now self.old.pending.items ≡ true → self.old.doubt ≡ false
+            → Applied edits.now records past self.new.pending.items self.new.doubt
+            (D.state self.old.folder) (D.state self.new.folder) result }
         ensures later { D.faults self.old.folder ≤ D.faults self.new.folder }
         ensures known { self.old.doubt ≡ false → doubts result ≡ self.new.doubt }
         ensures failed { IsErrOf result unfinished.Failed → Rose (D.faults self.old.folder) (D.faults self.new.folder) }
@@ -167,7 +195,11 @@ impl<D: Folder> LogStore<D> {
 
     /// Adds a change once the log was carried out.
     fn add_behind(&mut self, edits: &[Edit<'_>]) -> Result<(), Unfinished>
-        ensures does { D.told → (records : Records) (past : List Records) → IsSound records past self.old.pending.items (D.state self.old.folder) → self.old.doubt ≡ false → Applied edits.now records past self.new.pending.items self.new.doubt (D.state self.old.folder) (D.state self.new.folder) result }
+        ensures does { D.told → (records : Records) (past : List Records)
+            → IsSound records past self.old.pending.items (D.state self.old.folder)
+            → self.old.doubt ≡ false
+            → Applied edits.now records past self.new.pending.items self.new.doubt
+            (D.state self.old.folder) (D.state self.new.folder) result }
         ensures later { D.faults self.old.folder ≤ D.faults self.new.folder }
         ensures known { self.old.doubt ≡ false → doubts result ≡ self.new.doubt }
         ensures failed { IsErrOf result unfinished.Failed → Rose (D.faults self.old.folder) (D.faults self.new.folder) }
@@ -179,7 +211,11 @@ impl<D: Folder> LogStore<D> {
 
     /// Adds a change, once the log names no new file that it writes.
     fn add(&mut self, edits: &[Edit<'_>]) -> Result<(), Unfinished>
-        ensures does { D.told → (records : Records) (past : List Records) → IsSound records past self.old.pending.items (D.state self.old.folder) → is_clear edits.now self.old.pending.items ≡ true → self.old.doubt ≡ false → Applied edits.now records past self.new.pending.items self.new.doubt (D.state self.old.folder) (D.state self.new.folder) result }
+        ensures does { D.told → (records : Records) (past : List Records)
+            → IsSound records past self.old.pending.items (D.state self.old.folder)
+            → is_clear edits.now self.old.pending.items ≡ true → self.old.doubt ≡ false
+            → Applied edits.now records past self.new.pending.items self.new.doubt
+            (D.state self.old.folder) (D.state self.new.folder) result }
         ensures later { D.faults self.old.folder ≤ D.faults self.new.folder }
         ensures known { self.old.doubt ≡ false → doubts result ≡ self.new.doubt }
         ensures failed { IsErrOf result unfinished.Failed → Rose (D.faults self.old.folder) (D.faults self.new.folder) }
@@ -211,7 +247,9 @@ impl<D: Folder> LogStore<D> {
     /// Brings a folder to rest that a cut of power or a kill left, and gives the records that it has, in
     /// their order. What earlier runs left goes. A cut may come again at any moment.
     pub fn load(&mut self) -> Result<Vec<Which>, StoreError>
-        ensures does { D.told → (c : Files) (l : Log) (records : Records) (past : List Records) → IsLeft c l past (D.state self.old.folder) → Loads l c records → Loaded records past (D.state self.old.folder) (D.state self.new.folder) result }
+        ensures does { D.told → (c : Files) (l : Log) (records : Records) (past : List Records)
+            → IsLeft c l past (D.state self.old.folder) → Loads l c records
+            → Loaded records past (D.state self.old.folder) (D.state self.new.folder) result }
         ensures sure { IfOk result (λ names. (self.new.doubt ≡ false) × (self.new.pending.items ≡ [])) }
         ensures later { D.faults self.old.folder ≤ D.faults self.new.folder }
         ensures cause { IsErrOf result errors.Failed → Rose (D.faults self.old.folder) (D.faults self.new.folder) }
@@ -240,7 +278,10 @@ impl<D: Folder> LogStore<D> {
     /// Carries all out; the folder then holds the records' files alone. `Ok` says that it was done. From
     /// then on the store is in doubt, until a folder is loaded again.
     pub fn close(&mut self) -> Result<(), Unfinished>
-        ensures does { D.told → (records : Records) (past : List Records) → HoldsRecords records past self.old.pending.items self.old.doubt (D.state self.old.folder) → self.old.doubt ≡ false → Closed records past (D.state self.old.folder) (D.state self.new.folder) result }
+        ensures does { D.told → (records : Records) (past : List Records)
+            → HoldsRecords records past self.old.pending.items self.old.doubt
+            (D.state self.old.folder) → self.old.doubt ≡ false
+            → Closed records past (D.state self.old.folder) (D.state self.new.folder) result }
         ensures made { OnOk result (self.old.doubt ≡ false) }
         ensures known { self.new.doubt ≡ true }
         ensures later { D.faults self.old.folder ≤ D.faults self.new.folder }

@@ -25,7 +25,11 @@ pub enum Undone {
 
 /// Writes an edit's large bytes.
 fn stage_one<D: Folder>(folder: &mut D, edit: &Edit<'_>) -> Result<(), Fault>
-    ensures does { D.told → (records : Records) (past : List Records) (pending : List Which) → IsSound records past pending (D.state folder.old) → is_clear (edit.now ∷ []) pending ≡ true → Staged (edit.now ∷ []) records past pending (D.state folder.old) (D.state folder.new) result }
+    ensures does { D.told → (records : Records) (past : List Records) (pending : List Which)
+        → IsSound records past pending (D.state folder.old)
+        → is_clear (edit.now ∷ []) pending ≡ true
+        → Staged (edit.now ∷ []) records past pending (D.state folder.old)
+        (D.state folder.new) result }
     ensures later { D.faults folder.old ≤ D.faults folder.new }
     ensures cause { OnErr result (Rose (D.faults folder.old) (D.faults folder.new)) }
 {
@@ -38,9 +42,11 @@ fn stage_one<D: Folder>(folder: &mut D, edit: &Edit<'_>) -> Result<(), Fault>
 }
 
 /// Writes the large bytes of edits, the last edit's at last.
-#[tactic(auto, using(crate::proofs::Stage::clear_first, crate::proofs::Stage::clear_later, crate::proofs::Stage::staged_on))]
+#[tactic(auto, using(crate::proofs::Stage::by_stage))]
 fn stage<D: Folder>(folder: &mut D, edits: &[Edit<'_>]) -> Result<(), Fault>
-    ensures does { D.told → (records : Records) (past : List Records) (pending : List Which) → IsSound records past pending (D.state folder.old) → is_clear edits.now pending ≡ true → Staged edits.now records past pending (D.state folder.old) (D.state folder.new) result }
+    ensures does { D.told → (records : Records) (past : List Records) (pending : List Which)
+        → IsSound records past pending (D.state folder.old) → is_clear edits.now pending ≡ true
+        → Staged edits.now records past pending (D.state folder.old) (D.state folder.new) result }
     ensures later { D.faults folder.old ≤ D.faults folder.new }
     ensures cause { OnErr result (Rose (D.faults folder.old) (D.faults folder.new)) }
 {
@@ -55,7 +61,9 @@ fn stage<D: Folder>(folder: &mut D, edits: &[Edit<'_>]) -> Result<(), Fault>
 
 /// Writes the large bytes of edits; they are on the disk, under their names.
 fn prepare<D: Folder>(folder: &mut D, edits: &[Edit<'_>]) -> Result<(), Fault>
-    ensures does { D.told → (records : Records) (past : List Records) (pending : List Which) → IsSound records past pending (D.state folder.old) → is_clear edits.now pending ≡ true → Ready edits.now records past pending (D.state folder.old) (D.state folder.new) result }
+    ensures does { D.told → (records : Records) (past : List Records) (pending : List Which)
+        → IsSound records past pending (D.state folder.old) → is_clear edits.now pending ≡ true
+        → Ready edits.now records past pending (D.state folder.old) (D.state folder.new) result }
     ensures later { D.faults folder.old ≤ D.faults folder.new }
     ensures cause { OnErr result (Rose (D.faults folder.old) (D.faults folder.new)) }
 {
@@ -69,7 +77,10 @@ fn prepare<D: Folder>(folder: &mut D, edits: &[Edit<'_>]) -> Result<(), Fault>
 /// The log has as many entries again as these, which a failed call may have added one to. A cut finds no
 /// more from then on.
 fn take_back<D: Folder>(folder: &mut D, count: usize) -> Result<(), Fault>
-    ensures does { D.told → (edits : List Edit) (records : Records) (past : List Records) (pending : List Which) (before : Log) → count ≡ length before → IsMaybe edits records past pending before (D.state folder.old) → TakenBack edits records past pending (D.state folder.old) (D.state folder.new) result }
+    ensures does { D.told → (edits : List Edit) (records : Records) (past : List Records)
+        (pending : List Which) (before : Log) → count ≡ length before
+        → IsMaybe edits records past pending before (D.state folder.old)
+        → TakenBack edits records past pending (D.state folder.old) (D.state folder.new) result }
     ensures later { D.faults folder.old ≤ D.faults folder.new }
 {
     folder.cut_log(count)?;
@@ -78,7 +89,10 @@ fn take_back<D: Folder>(folder: &mut D, count: usize) -> Result<(), Fault>
 
 /// Adds the entry of edits to the log, or takes it back where it may stand there or not.
 fn add<D: Folder>(folder: &mut D, edits: &[Edit<'_>]) -> Result<(), Undone>
-    ensures does { D.told → (records : Records) (past : List Records) (pending : List Which) → IsSound records past pending (D.state folder.old) → AreReady edits.now (D.state folder.old) → Added edits.now records past pending (D.state folder.old) (D.state folder.new) result }
+    ensures does { D.told → (records : Records) (past : List Records) (pending : List Which)
+        → IsSound records past pending (D.state folder.old)
+        → AreReady edits.now (D.state folder.old)
+        → Added edits.now records past pending (D.state folder.old) (D.state folder.new) result }
     ensures later { D.faults folder.old ≤ D.faults folder.new }
     ensures cause { OnErr result (Rose (D.faults folder.old) (D.faults folder.new)) }
 {
@@ -98,7 +112,9 @@ fn add<D: Folder>(folder: &mut D, edits: &[Edit<'_>]) -> Result<(), Undone>
 fn clean<D: Folder>(folder: &mut D, edits: &[Edit<'_>])
     ensures gone { D.told → AreGone edits.now (D.state folder.new) (D.faults folder.old) (D.faults folder.new) }
     ensures stays { D.told → StaysGone (D.state folder.old) (D.state folder.new) }
-    ensures does { D.told → (records : Records) (past : List Records) (pending : List Which) → IsSound records past pending (D.state folder.old) → is_clear edits.now pending ≡ true → Cleaned records past pending (D.state folder.old) (D.state folder.new) }
+    ensures does { D.told → (records : Records) (past : List Records) (pending : List Which)
+        → IsSound records past pending (D.state folder.old) → is_clear edits.now pending ≡ true
+        → Cleaned records past pending (D.state folder.old) (D.state folder.new) }
     ensures later { D.faults folder.old ≤ D.faults folder.new }
 {
     if let [edit, rest @ ..] = edits {
@@ -111,7 +127,10 @@ fn clean<D: Folder>(folder: &mut D, edits: &[Edit<'_>])
 fn clean_one<D: Folder>(folder: &mut D, edit: &Edit<'_>)
     ensures gone { D.told → AreGone (edit.now ∷ []) (D.state folder.new) (D.faults folder.old) (D.faults folder.new) }
     ensures stays { D.told → StaysGone (D.state folder.old) (D.state folder.new) }
-    ensures does { D.told → (records : Records) (past : List Records) (pending : List Which) → IsSound records past pending (D.state folder.old) → is_clear (edit.now ∷ []) pending ≡ true → Cleaned records past pending (D.state folder.old) (D.state folder.new) }
+    ensures does { D.told → (records : Records) (past : List Records) (pending : List Which)
+        → IsSound records past pending (D.state folder.old)
+        → is_clear (edit.now ∷ []) pending ≡ true
+        → Cleaned records past pending (D.state folder.old) (D.state folder.new) }
     ensures later { D.faults folder.old ≤ D.faults folder.new }
 {
     match edit.what {
@@ -125,7 +144,10 @@ fn clean_one<D: Folder>(folder: &mut D, edit: &Edit<'_>)
 /// Adds the entry of edits to the log, and removes their new files where it was taken back.
 fn add_or_clean<D: Folder>(folder: &mut D, edits: &[Edit<'_>]) -> Result<(), Undone>
     ensures gone { D.told → IfBefore result (GoneAfter edits.now (D.state folder.new) (D.faults folder.old) (D.faults folder.new)) }
-    ensures does { D.told → (records : Records) (past : List Records) (pending : List Which) → IsSound records past pending (D.state folder.old) → AreReady edits.now (D.state folder.old) → is_clear edits.now pending ≡ true → Added edits.now records past pending (D.state folder.old) (D.state folder.new) result }
+    ensures does { D.told → (records : Records) (past : List Records) (pending : List Which)
+        → IsSound records past pending (D.state folder.old)
+        → AreReady edits.now (D.state folder.old) → is_clear edits.now pending ≡ true
+        → Added edits.now records past pending (D.state folder.old) (D.state folder.new) result }
     ensures later { D.faults folder.old ≤ D.faults folder.new }
     ensures cause { OnErr result (Rose (D.faults folder.old) (D.faults folder.new)) }
 {
@@ -142,7 +164,9 @@ fn add_or_clean<D: Folder>(folder: &mut D, edits: &[Edit<'_>]) -> Result<(), Und
 /// Makes a change as a whole or not at all. What one wrote that wasn't made goes at once.
 pub(crate) fn change<D: Folder>(folder: &mut D, edits: &[Edit<'_>]) -> Result<(), Undone>
     ensures gone { D.told → IfBefore result (GoneAfter edits.now (D.state folder.new) (D.faults folder.old) (D.faults folder.new)) }
-    ensures does { D.told → (records : Records) (past : List Records) (pending : List Which) → IsSound records past pending (D.state folder.old) → is_clear edits.now pending ≡ true → Added edits.now records past pending (D.state folder.old) (D.state folder.new) result }
+    ensures does { D.told → (records : Records) (past : List Records) (pending : List Which)
+        → IsSound records past pending (D.state folder.old) → is_clear edits.now pending ≡ true
+        → Added edits.now records past pending (D.state folder.old) (D.state folder.new) result }
     ensures later { D.faults folder.old ≤ D.faults folder.new }
     ensures cause { OnErr result (Rose (D.faults folder.old) (D.faults folder.new)) }
 {

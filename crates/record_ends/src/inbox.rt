@@ -129,9 +129,16 @@ impl Inbox {
     /// record is lost then. After `Memory` the bytes that were taken last may be gone.
     pub fn next<L: Link>(&mut self, alloc: Global, link: &mut L) -> Result<Record, End>
         ensures given { IfOk result (λ r. (bytes : List ℕ) × Consumes (L.left link.old) (L.left link.new) bytes × Gives self.old bytes r self.new) }
-        ensures ended { IsErrOf result ends.InputEnd → (bytes : List ℕ) × Consumes (L.left link.old) (L.left link.new) bytes × Takes self.old bytes self.new × IsAtEnd (L.left link.new) × (self.new.waiting ≡ []) × (self.new.unread.spoilt ≡ None) }
-        ensures failed { IsErrOf result ends.Failed → (bytes : List ℕ) × Consumes (L.left link.old) (L.left link.new) bytes × Takes self.old bytes self.new × Rose (L.faults link.old) (L.faults link.new) }
-        ensures spoilt { IsErrOf result ends.Spoilt → (bytes : List ℕ) × Consumes (L.left link.old) (L.left link.new) bytes × Takes self.old bytes self.new × (self.new.waiting ≡ []) × ¬ (self.new.unread.spoilt ≡ None) }
+        ensures ended { IsErrOf result ends.InputEnd → (bytes : List ℕ)
+            × Consumes (L.left link.old) (L.left link.new) bytes × Takes self.old bytes self.new
+            × IsAtEnd (L.left link.new) × (self.new.waiting ≡ [])
+            × (self.new.unread.spoilt ≡ None) }
+        ensures failed { IsErrOf result ends.Failed → (bytes : List ℕ)
+            × Consumes (L.left link.old) (L.left link.new) bytes × Takes self.old bytes self.new
+            × Rose (L.faults link.old) (L.faults link.new) }
+        ensures spoilt { IsErrOf result ends.Spoilt → (bytes : List ℕ)
+            × Consumes (L.left link.old) (L.left link.new) bytes × Takes self.old bytes self.new
+            × (self.new.waiting ≡ []) × ¬ (self.new.unread.spoilt ≡ None) }
         ensures out { L.held link.new ≡ L.held link.old }
         ensures later { L.faults link.old ≤ L.faults link.new }
     {

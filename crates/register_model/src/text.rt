@@ -5,7 +5,8 @@ ghost use Rattle.std.specs.Prelude.{◌≡◌, ℕ, ◌+◌, ◌<◌, ◌^◌, L
 ghost use Rattle.std.specs.Fmt.{decimal};
 ghost use Rattle.std.specs.Option.{option_copied};
 ghost use Rattle.register_model.specs.declared.op.Outcome.TheVariants as outcome;
-ghost use Rattle.register_model.specs.Text.{history_text, summary_text, done_text, undone_text, ops_line, totals_line, op_name, op_times, op_line, op_lines, kind_text, raw_name, raw_told, raw_line, raw_lines, end_line, outcome_text, IsWordAlone, word_text, bytes_text, moment, traffic_text};
+ghost use Rattle.register_model.specs.Text.{history_text, summary_text, done_text, undone_text, ops_line, totals_line, op_name, op_times, op_line, op_lines, kind_text, raw_name, raw_told, raw_line};
+ghost use Rattle.register_model.specs.Text.{raw_lines, end_line, outcome_text, IsWordAlone, word_text, bytes_text, moment, traffic_text};
 
 use crate::history::History;
 use crate::op::{Op, Outcome, Traffic, Word};

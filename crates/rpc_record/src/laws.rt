@@ -17,9 +17,17 @@ ghost use Rattle.rpc_record.specs.Records.{Unread, HasRecord, split, fed, contin
 /// stream holds no whole record: none is at its front, and none stands there in any fragments.
 pub fn records_are_framed()
     ensures sound { (bytes : List ℕ) → IsBytes bytes → IsFramed bytes (split bytes) }
-    ensures complete { (records : List (List ℕ)) (bytes rest : List ℕ) → Framed records bytes rest → split bytes ≡ record { records = records ++ (split rest).records; rest = (split rest).rest; spoilt = (split rest).spoilt } }
+    ensures complete { (records : List (List ℕ)) (bytes rest : List ℕ)
+        → Framed records bytes rest
+        → split bytes ≡ record {
+          records = records ++ (split rest).records;
+          rest = (split rest).rest;
+          spoilt = (split rest).spoilt;
+        } }
     ensures left { (unread : Unread) (piece contents : List ℕ) → (fed unread piece).0.spoilt ≡ None → ¬ HasRecord (fed unread piece).0.rest contents }
-    ensures unframed { (unread : Unread) (piece contents behind : List ℕ) (records : List (List ℕ)) → (fed unread piece).0.spoilt ≡ None → ¬ Framed (contents ∷ records) (fed unread piece).0.rest behind }
+    ensures unframed { (unread : Unread) (piece contents behind : List ℕ)
+        (records : List (List ℕ)) → (fed unread piece).0.spoilt ≡ None
+        → ¬ Framed (contents ∷ records) (fed unread piece).0.rest behind }
 {}
 
 /// Pieces, however they were cut, are refused exactly where a start of a record stands behind
@@ -27,7 +35,10 @@ pub fn records_are_framed()
 /// more than `FRAGMENTS_MOST` headers and promises no more than these; and those records come beside the refusal.
 pub fn refusals_are_of_spoilt_streams()
     ensures exact { (pieces : List (List ℕ)) (why : Refusal) → IsBytes (concat pieces) → ((all_fed nothing_read pieces).spoilt ≡ Some why) ↔ Spoils (concat pieces) why }
-    ensures beside { (pieces records : List (List ℕ)) (why : Refusal) → SpoiltBehind records (concat pieces) why → all_fed nothing_read pieces ≡ record { records = records; rest = []; spoilt = Some why } }
+    ensures beside { (pieces records : List (List ℕ)) (why : Refusal)
+        → SpoiltBehind records (concat pieces) why
+        → all_fed nothing_read pieces
+        ≡ record { records = records; rest = []; spoilt = Some why } }
 {}
 
 /// However bytes are cut into pieces, the pieces give the records of the whole, one after the

@@ -184,3 +184,6 @@ module _ (s : State) (session xid : ℕ) where
       ∙ ap (λ (l : List Lease). record s { index = index; leasing = record s.leasing { leases = l } }) stand
       ∙ ap (λ (i : Indexed). record s { index = i }) left
       ∙ missed_agrees m
+
+-- what `call_chunks` goes by
+pub ruleset by_call_chunks = (takes_memory, missed_is, place_takes, place_missed)

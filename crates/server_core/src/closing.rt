@@ -102,7 +102,11 @@ impl ServerState {
         requires room { is_full (state_of self.old) commit.now.size ≡ false }
         requires new { has_waiting (state_of self.old).waiting session ≡ false }
         requires spare { entries_held self.old.waits.waits ≤ S.spare store.old }
-        ensures ok { (content : List ℕ) → Some content ≡ whole_of (temp_at (state_of self.old).temps session commit.now.fd) commit.now.size → IfOk result (λ o. admits (state_of self.old) session xid file commit.now.fd content ≡ (state_of self.new, o)) }
+        ensures ok { (content : List ℕ)
+            → Some content ≡ whole_of
+            (temp_at (state_of self.old).temps session commit.now.fd) commit.now.size
+            → IfOk result (λ o. admits
+            (state_of self.old) session xid file commit.now.fd content ≡ (state_of self.new, o)) }
         ensures done { IfOk result (λ o. o.missed ≡ false) }
         ensures err { OnErr result (state_of self.new ≡ state_of self.old) }
         ensures bounded { IsBounded self.new }

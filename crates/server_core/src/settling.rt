@@ -134,7 +134,10 @@ impl ServerState {
         requires timed { now < 2 ^ 63 }
         requires spare { entries_held self.old.waits.waits ≤ S.spare store.old }
         ensures exact { result.missed ≡ false → IsServed (S.faults store.old) (S.faults store.new) (λ fault. settles_under (state_of self.old) fault now) (state_of self.new, result) }
-        ensures lacks { result.missed ≡ true → Lacks (state_of self.old).index (chunks_of_change (state_of self.old) (ready_by (state_of self.old) now)) (settles (state_of self.old) now) (state_of self.new) result }
+        ensures lacks { result.missed ≡ true
+            → Lacks (state_of self.old).index
+            (chunks_of_change (state_of self.old) (ready_by (state_of self.old) now))
+            (settles (state_of self.old) now) (state_of self.new) result }
         ensures bounded { IsBounded self.new }
         ensures keeps { Keeps (S.records store.old) self.old.tree.tree (S.records store.new) self.new.tree.tree }
         ensures spare { entries_held self.new.waits.waits ≤ S.spare store.new }
@@ -158,8 +161,14 @@ impl ServerState {
         requires settling { IsSettling self.old }
         requires made { IsMade change }
         requires spare { entries_held self.old.waits.waits + entries_wanted change.what ≤ S.spare store.old }
-        ensures exact { result.missed ≡ false → IsServed (S.faults store.old) (S.faults store.new) (λ fault. makes_change_under (state_of self.old) fault change change.what) (state_of self.new, result) }
-        ensures lacks { result.missed ≡ true → Lacks (state_of self.old).index (change_entered (state_of self.old) change change.what) (makes_change (state_of self.old) change change.what) (state_of self.new) result }
+        ensures exact { result.missed ≡ false
+            → IsServed (S.faults store.old) (S.faults store.new)
+            (λ fault. makes_change_under (state_of self.old) fault change change.what)
+            (state_of self.new, result) }
+        ensures lacks { result.missed ≡ true
+            → Lacks (state_of self.old).index
+            (change_entered (state_of self.old) change change.what)
+            (makes_change (state_of self.old) change change.what) (state_of self.new) result }
         ensures bounded { IsBounded self.new }
         ensures keeps { Keeps (S.records store.old) self.old.tree.tree (S.records store.new) self.new.tree.tree }
         ensures spare { entries_held self.new.waits.waits ≤ S.spare store.new }
@@ -194,8 +203,18 @@ impl ServerState {
     ) -> ServerStep
         requires settling { IsSettling self.old }
         requires spare { entries_held self.old.waits.waits + 1 ≤ S.spare store.old }
-        ensures exact { result.missed ≡ false → IsServed (S.faults store.old) (S.faults store.new) (λ fault. makes_change_under (state_of self.old) fault (change_of session xid file (wanted.Content content)) (wanted.Content content)) (state_of self.new, result) }
-        ensures lacks { result.missed ≡ true → Lacks (state_of self.old).index (change_entered (state_of self.old) (change_of session xid file (wanted.Content content)) (wanted.Content content)) (makes_change (state_of self.old) (change_of session xid file (wanted.Content content)) (wanted.Content content)) (state_of self.new) result }
+        ensures exact { result.missed ≡ false
+            → IsServed (S.faults store.old) (S.faults store.new)
+            (λ fault. makes_change_under (state_of self.old) fault
+            (change_of session xid file (wanted.Content content)) (wanted.Content content))
+            (state_of self.new, result) }
+        ensures lacks { result.missed ≡ true
+            → Lacks (state_of self.old).index
+            (change_entered (state_of self.old)
+            (change_of session xid file (wanted.Content content)) (wanted.Content content))
+            (makes_change (state_of self.old)
+            (change_of session xid file (wanted.Content content)) (wanted.Content content))
+            (state_of self.new) result }
         ensures bounded { IsBounded self.new }
         ensures keeps { Keeps (S.records store.old) self.old.tree.tree (S.records store.new) self.new.tree.tree }
         ensures spare { entries_held self.new.waits.waits ≤ S.spare store.new }
@@ -231,7 +250,10 @@ impl ServerState {
     ) -> ServerStep
         requires settling { IsSettling self.old }
         requires spare { entries_held self.old.waits.waits + entries_of asked ≤ S.spare store.old }
-        ensures exact { (id : ℕ) → IsServed (S.faults store.old) (S.faults store.new) (λ fault. makes_change_under (state_of self.old) fault (change_of session xid id (wanted.Asked asked)) (wanted.Asked asked)) (state_of self.new, result) }
+        ensures exact { (id : ℕ) → IsServed (S.faults store.old) (S.faults store.new)
+            (λ fault. makes_change_under (state_of self.old) fault
+            (change_of session xid id (wanted.Asked asked)) (wanted.Asked asked))
+            (state_of self.new, result) }
         ensures done { result.missed ≡ false }
         ensures bounded { IsBounded self.new }
         ensures keeps { Keeps (S.records store.old) self.old.tree.tree (S.records store.new) self.new.tree.tree }

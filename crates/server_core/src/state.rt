@@ -12,7 +12,8 @@ ghost use Rattle.chunk_calls.specs.Calling.{is_committmp};
 ghost use Rattle.file_tree.specs.Stores.{Keeps};
 ghost use Rattle.server_core.specs.Served.{IsServed};
 ghost use Rattle.server_core.specs.State.{entries_held};
-ghost use Rattle.server_core.specs.Step.{server_step_under, called, called_under, got_if_under, hears, stands, connect, has_room, opens_with, chunks_called, IsTimed, missed_call, TakesMemory, Lacks, MissesCall, Misses};
+ghost use Rattle.server_core.specs.Step.{server_step_under, called, called_under, got_if_under, hears, stands, connect, has_room, opens_with, chunks_called, IsTimed, missed_call, TakesMemory, Lacks};
+ghost use Rattle.server_core.specs.Step.{MissesCall, Misses};
 ghost use Rattle.server_core.specs.View.{state_of, IsBounded};
 ghost use Rattle.server_core.specs.declared.event.Event.TheVariants as event;
 ghost use Rattle.server_rules.specs.declared.told.Told.TheVariants as told;
@@ -133,7 +134,11 @@ impl ServerState {
         requires bounded { IsBounded self.old }
         requires timed { now < 2 ^ 63 }
         requires spare { entries_held self.old.waits.waits ≤ S.spare store.old }
-        ensures exact { result.missed ≡ false → IsServed (S.faults store.old) (S.faults store.new) (λ fault. got_if_under (state_of self.old) fault (stands (state_of self.old) session) session message.old now) (state_of self.new, result) }
+        ensures exact { result.missed ≡ false
+            → IsServed (S.faults store.old) (S.faults store.new)
+            (λ fault. got_if_under (state_of self.old) fault
+            (stands (state_of self.old) session) session message.old now)
+            (state_of self.new, result) }
         ensures missed { result.missed ≡ true → Misses (state_of self.old) (event.Got session message.old now) (state_of self.new) result }
         ensures bounded { IsBounded self.new }
         ensures keeps { Keeps (S.records store.old) self.old.tree.tree (S.records store.new) self.new.tree.tree }
@@ -207,8 +212,13 @@ impl ServerState {
     ) -> Result<ServerStep, AllocError>
         requires bounded { IsBounded self.old }
         requires spare { entries_held self.old.waits.waits ≤ S.spare store.old }
-        ensures ok { IfOk result (λ o. o.missed ≡ false → IsServed (S.faults store.old) (S.faults store.new) (λ fault. called_under (state_of self.old) fault session xid body.old) (state_of self.new, o)) }
-        ensures lacks { IfOk result (λ o. o.missed ≡ true → Lacks (state_of self.old).index (chunks_called (state_of self.old) body.old) (called (state_of self.old) session xid body.old) (state_of self.new) o) }
+        ensures ok { IfOk result (λ o. o.missed ≡ false
+            → IsServed (S.faults store.old) (S.faults store.new)
+            (λ fault. called_under (state_of self.old) fault session xid body.old)
+            (state_of self.new, o)) }
+        ensures lacks { IfOk result (λ o. o.missed ≡ true
+            → Lacks (state_of self.old).index (chunks_called (state_of self.old) body.old)
+            (called (state_of self.old) session xid body.old) (state_of self.new) o) }
         ensures err { OnErr result (state_of self.new ≡ missed_call (state_of self.old) body.old) }
         ensures takes { OnErr result (TakesMemory (state_of self.old) session body.old) }
         ensures bounded { IsBounded self.new }
@@ -235,7 +245,10 @@ impl ServerState {
         requires bounded { IsBounded self.old }
         requires spare { entries_held self.old.waits.waits ≤ S.spare store.old }
         ensures ok { IfOk result (λ o. o.missed ≡ false → called (state_of self.old) session xid (body.Lb call.old) ≡ (state_of self.new, o)) }
-        ensures lacks { IfOk result (λ o. o.missed ≡ true → Lacks (state_of self.old).index (chunks_called (state_of self.old) (body.Lb call.old)) (called (state_of self.old) session xid (body.Lb call.old)) (state_of self.new) o) }
+        ensures lacks { IfOk result (λ o. o.missed ≡ true
+            → Lacks (state_of self.old).index
+            (chunks_called (state_of self.old) (body.Lb call.old))
+            (called (state_of self.old) session xid (body.Lb call.old)) (state_of self.new) o) }
         ensures err { OnErr result (state_of self.new ≡ missed_call (state_of self.old) (body.Lb call.old)) }
         ensures takes { OnErr result (TakesMemory (state_of self.old) session (body.Lb call.old)) }
         ensures bounded { IsBounded self.new }
@@ -252,7 +265,7 @@ impl ServerState {
 
     /// A call of LBFS but COMMITTMP. Memory for the lease that it is granted is taken first. An `Err`
     /// changes nothing, but for a look-up.
-    #[tactic(auto, using(crate::proofs::Delegated::takes_memory, crate::proofs::Delegated::missed_is, crate::proofs::Delegated::place_takes, crate::proofs::Delegated::place_missed))]
+    #[tactic(auto, using(crate::proofs::Delegated::by_call_chunks))]
     fn call_chunks(
         &mut self,
         alloc: Global,
@@ -263,7 +276,10 @@ impl ServerState {
         requires bounded { IsBounded self.old }
         requires other { is_committmp call.old ≡ false }
         ensures ok { IfOk result (λ o. o.missed ≡ false → called (state_of self.old) session xid (body.Lb call.old) ≡ (state_of self.new, o)) }
-        ensures lacks { IfOk result (λ o. o.missed ≡ true → Lacks (state_of self.old).index (chunks_called (state_of self.old) (body.Lb call.old)) (called (state_of self.old) session xid (body.Lb call.old)) (state_of self.new) o) }
+        ensures lacks { IfOk result (λ o. o.missed ≡ true
+            → Lacks (state_of self.old).index
+            (chunks_called (state_of self.old) (body.Lb call.old))
+            (called (state_of self.old) session xid (body.Lb call.old)) (state_of self.new) o) }
         ensures err { OnErr result (state_of self.new ≡ missed_call (state_of self.old) (body.Lb call.old)) }
         ensures takes { OnErr result (TakesMemory (state_of self.old) session (body.Lb call.old)) }
         ensures bounded { IsBounded self.new }

@@ -76,7 +76,12 @@ impl Wire {
     /// So many bytes on their way up reach the server, which has these records of them.
     pub fn take_up(&mut self, alloc: Global, amount: Amount) -> Result<Items<Record>, AllocError>
         ensures records { IfOk result (λ records. records ≡ (fed self.old.server_end (take (count_of amount (length self.old.up)) self.old.up)).1.records) }
-        ensures rest { OnOk result (self.new ≡ record self.old { up = drop (count_of amount (length self.old.up)) self.old.up; server_end = (fed self.old.server_end (take (count_of amount (length self.old.up)) self.old.up)).0 }) }
+        ensures rest { OnOk result (self.new
+            ≡ record self.old {
+              up = drop (count_of amount (length self.old.up)) self.old.up;
+              server_end = (fed self.old.server_end
+                  (take (count_of amount (length self.old.up)) self.old.up)).0;
+            }) }
     {
         deliver(alloc, &mut self.up, amount, &mut self.server_end)
     }
@@ -84,7 +89,13 @@ impl Wire {
     /// So many bytes on their way down reach the client, which has these records of them.
     pub fn take_down(&mut self, alloc: Global, amount: Amount) -> Result<Items<Record>, AllocError>
         ensures records { IfOk result (λ records. records ≡ (fed self.old.client_end (take (count_of amount (length self.old.down)) self.old.down)).1.records) }
-        ensures rest { OnOk result (self.new ≡ record self.old { down = drop (count_of amount (length self.old.down)) self.old.down; client_end = (fed self.old.client_end (take (count_of amount (length self.old.down)) self.old.down)).0 }) }
+        ensures rest { OnOk result (self.new
+            ≡ record self.old {
+              down = drop
+                  (count_of amount (length self.old.down)) self.old.down;
+              client_end = (fed self.old.client_end
+                  (take (count_of amount (length self.old.down)) self.old.down)).0;
+            }) }
     {
         deliver(alloc, &mut self.down, amount, &mut self.client_end)
     }

@@ -1,7 +1,8 @@
 //! The commands of a shell: `command_of` of `specs/Commands.antt`.
 
 ghost use Rattle.std.specs.Prelude.{◌≡◌, ◌<◌, length};
-ghost use Rattle.shell_words.specs.Commands.{verb_of, is_option_of, is_later_of, least_of, most_of, wanting, kind_of, start_of, operands_at, counted, line_at, line_of, some_line, first_verb, command_of};
+ghost use Rattle.shell_words.specs.Commands.{verb_of, is_option_of, is_later_of, least_of, most_of, wanting, kind_of, start_of, operands_at, counted, line_at, line_of, some_line, first_verb};
+ghost use Rattle.shell_words.specs.Commands.{command_of};
 
 use crate::mistake::Mistake;
 use command_text::words::is;

@@ -101,3 +101,6 @@ headless_applied head a (Some b) xs = omega (arith, headless_changed b (changed 
 -- the room that is left
 pub spare_left : (head : Head) (a : RecordChange) (b : Option RecordChange) (xs ys : List Kept) (capacity capacity' : ℕ) → ys ≡ applied head a b xs → capacity ≤ capacity' → capacity - (length (headless xs) + 1) ≤ capacity' - (length (headless ys) + 1) + places b
 spare_left head a b xs ys capacity capacity' same more = rw same (omega (arith, more, headless_applied head a b xs))
+
+-- what `put` goes by
+pub ruleset by_put = (put_there, put_last, length_put)

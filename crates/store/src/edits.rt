@@ -85,7 +85,7 @@ fn place_of(records: &Vec<Kept>, one: &Kept) -> usize
 }
 
 /// Puts a record in the place of the one that it replaces, or at the end. It takes no memory.
-#[tactic(auto, using(crate::proofs::Putting::put_there, crate::proofs::Putting::put_last, crate::proofs::Putting::length_put))]
+#[tactic(auto, using(crate::proofs::Putting::by_put))]
 fn put(records: &mut Vec<Kept>, one: Kept)
     requires { length records.old.items < vec_capacity records.old }
     ensures done { records.new.items ≡ with_record one records.old.items }

@@ -1,7 +1,8 @@
 //! The report on a store: `report` of `specs/Report.antt`.
 
 ghost use Rattle.std.specs.Prelude.{◌≡◌, ◌++◌, Some, IfOk, OnOk, flat_map, map, string_bytes};
-ghost use Rattle.store_report.specs.Report.{broken_line, bytes_text, directories_text, files_text, finding_line, first_broken, first_of, id_of, line_of, name_of, other_text, parent_of, report, report_if, subject_name, text_in, whole_text};
+ghost use Rattle.store_report.specs.Report.{broken_line, bytes_text, directories_text, files_text, finding_line, first_broken, first_of, id_of, line_of, name_of, other_text, parent_of, report};
+ghost use Rattle.store_report.specs.Report.{report_if, subject_name, text_in, whole_text};
 
 use crate::subject::{Subject, rule_text, subject_of};
 use lb_base::items::{Bytes, Items};

@@ -10,7 +10,8 @@ ghost use Rattle.std.specs.Option.{option_copied, option_map};
 ghost use Rattle.temp_files.specs.declared.fault.TempError.TheVariants as refusal;
 ghost use Rattle.temp_files.specs.Covered.{ComesTo};
 ghost use Rattle.temp_files.specs.Pieces.{StandApart};
-ghost use Rattle.temp_files.specs.Temps.{key_of, temp_at, with_temp, without_temp, without_session, temps_of, temps_most, empty_temp, room_fault, piece_fault, with_more, size_fault, whole_of, pieces_of, IsTempKeyed, Tells};
+ghost use Rattle.temp_files.specs.Temps.{key_of, temp_at, with_temp, without_temp, without_session, temps_of, temps_most, empty_temp, room_fault, piece_fault, with_more, size_fault, whole_of};
+ghost use Rattle.temp_files.specs.Temps.{pieces_of, IsTempKeyed, Tells};
 
 use crate::fault::TempError;
 use crate::pieces::SIZE_MOST;

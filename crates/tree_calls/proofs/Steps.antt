@@ -276,3 +276,33 @@ told_takes t held busy m (Err x) e takes = takes_told t held busy m e takes
 pub unchanged : {A E : Type 0} (t : Tree) (r : Result A E) → OnErr r (t ≡ t)
 unchanged t (Ok o) = tt
 unchanged t (Err x) = refl
+
+-- what `rename` goes by
+pub ruleset by_rename = (renamed_now, renaming_refused, renaming_waits, kept_ready, kept_same)
+
+-- what `rename` goes by
+pub ruleset by_rename_calls = (rename_misnamed, rename_to_misnamed, kept_same)
+
+-- what `unchanging` goes by
+pub ruleset by_unchanging = (told_calls, told_takes, told_waits)
+
+-- what `make_file` goes by
+pub ruleset by_make_file = (file_made, file_id, kept_ready, kept_same)
+
+-- what `create` goes by
+pub ruleset by_create = (create_misnamed, create_refused, create_there, kept_same)
+
+-- what `make_directory` goes by
+pub ruleset by_make_directory = (directory_made, directory_id, kept_ready, kept_same)
+
+-- what `mkdir` goes by
+pub ruleset by_mkdir = (mkdir_misnamed, mkdir_refused, kept_same)
+
+-- what `rmdir` goes by
+pub ruleset by_rmdir = (rmdir_misnamed, rmdir_refused, called_ready, kept_ready, kept_same)
+
+-- what `settle_remove` goes by
+pub ruleset by_settle_remove = (remove_again_refused, remove_checked, kept_same)
+
+-- what `settle_rename` goes by
+pub ruleset by_settle_rename = (rename_again_refused, rename_checked, kept_same)

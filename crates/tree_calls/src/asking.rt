@@ -191,7 +191,7 @@ fn renaming_of(
 
 /// RENAME in a directory. The one error is running out of memory, where the call is not refused,
 /// and the tree is then as it was.
-#[tactic(auto, using(crate::proofs::Steps::renamed_now, crate::proofs::Steps::renaming_refused, crate::proofs::Steps::renaming_waits, crate::proofs::Steps::kept_ready, crate::proofs::Steps::kept_same))]
+#[tactic(auto, using(crate::proofs::Steps::by_rename))]
 pub fn rename<S: Store>(
     alloc: Global,
     tree: &mut Tree,
@@ -203,7 +203,9 @@ pub fn rename<S: Store>(
     to: u64,
     to_name: &Name,
 ) -> Result<Outcome, AllocError>
-    ensures ok { IfOk result (λ o. IsCalled (S.faults store.old) (S.faults store.new) (λ fault. renaming_under tree.old.tree held fault dir name.now to to_name.now (asks_rename tree.old.tree held busy dir name.now to to_name.now)) (tree.new.tree, o)) }
+    ensures ok { IfOk result (λ o. IsCalled (S.faults store.old) (S.faults store.new)
+        (λ fault. renaming_under tree.old.tree held fault dir name.now to to_name.now
+        (asks_rename tree.old.tree held busy dir name.now to to_name.now)) (tree.new.tree, o)) }
     ensures err { OnErr result (tree.new.tree ≡ tree.old.tree) }
     ensures keeps { Keeps (S.records store.old) tree.old.tree (S.records store.new) tree.new.tree }
     ensures spare { held.entries ≤ S.spare store.old → held.entries ≤ S.spare store.new }

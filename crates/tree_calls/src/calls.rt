@@ -19,7 +19,7 @@ use std::alloc::{AllocError, Global};
 use store::store::Store;
 use tree_reading::call::Reservation;
 
-#[tactic(auto, using(crate::proofs::Steps::rename_misnamed, crate::proofs::Steps::rename_to_misnamed, crate::proofs::Steps::kept_same))]
+#[tactic(auto, using(crate::proofs::Steps::by_rename_calls))]
 fn rename<S: Store>(
     alloc: Global,
     tree: &mut Tree,
@@ -28,7 +28,10 @@ fn rename<S: Store>(
     busy: bool,
     rename: &Rename,
 ) -> Result<Outcome, AllocError>
-    ensures ok { IfOk result (λ o. IsCalled (S.faults store.old) (S.faults store.new) (λ fault. renames_in_under tree.old.tree held busy fault rename.now.from.name rename.now.to.name (id_of rename.now.from.dir) (id_of rename.now.to.dir)) (tree.new.tree, o)) }
+    ensures ok { IfOk result (λ o. IsCalled (S.faults store.old) (S.faults store.new)
+        (λ fault.
+        renames_in_under tree.old.tree held busy fault rename.now.from.name rename.now.to.name
+        (id_of rename.now.from.dir) (id_of rename.now.to.dir)) (tree.new.tree, o)) }
     ensures err { OnErr result (tree.new.tree ≡ tree.old.tree) }
     ensures takes { OnErr result (Takes tree.old.tree held busy (nfs.Rename rename.now)) }
     ensures keeps { Keeps (S.records store.old) tree.old.tree (S.records store.new) tree.new.tree }
@@ -69,7 +72,7 @@ fn told(alloc: Global, tree: &Tree, call: &Nfs) -> Result<Option<Outcome>, Alloc
 }
 
 /// What a message comes to that changes nothing.
-#[tactic(auto, using(crate::proofs::Steps::told_calls, crate::proofs::Steps::told_takes, crate::proofs::Steps::told_waits))]
+#[tactic(auto, using(crate::proofs::Steps::by_unchanging))]
 fn unchanging(alloc: Global, tree: &Tree, call: &Nfs) -> Result<Option<Outcome>, AllocError>
     requires { changes call.now ≡ false }
     ensures ok { (held : Reservation) (busy fault : Bool) → IfOk result (λ o. calls_under tree.now.tree held busy fault call.now ≡ (tree.now.tree, o)) }

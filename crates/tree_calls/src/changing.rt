@@ -10,7 +10,8 @@ ghost use Rattle.file_tree.specs.Stores.{Keeps};
 ghost use Rattle.tree_calls.specs.Calling.{IsCalled};
 ghost use Rattle.tree_calls.specs.Telling.{id_of};
 ghost use Rattle.tree_calls.specs.Waiting.{creates_in_under, mkdirs_in_under, rmdirs_in_under, Takes};
-ghost use Rattle.tree_calls.specs.Changing.{before, no_side, said, made_of, created, made_directory, mode_of, removed_directory, refused_rename, renamed, creates_under, mkdirs_under, rmdirs_under, renames_under};
+ghost use Rattle.tree_calls.specs.Changing.{before, no_side, said, made_of, created, made_directory, mode_of, removed_directory, refused_rename, renamed, creates_under, mkdirs_under, rmdirs_under};
+ghost use Rattle.tree_calls.specs.Changing.{renames_under};
 
 use crate::asked::Done;
 use crate::naming::id_of;
@@ -118,7 +119,7 @@ fn find_file(alloc: Global, tree: &Tree, dir: u64, there: Changed) -> Result<Don
 
 /// CREATE of a file that is to be made. The one error is running out of memory, and the tree is
 /// then as it was.
-#[tactic(auto, using(crate::proofs::Steps::file_made, crate::proofs::Steps::file_id, crate::proofs::Steps::kept_ready, crate::proofs::Steps::kept_same))]
+#[tactic(auto, using(crate::proofs::Steps::by_make_file))]
 fn make_file<S: Store>(
     alloc: Global,
     tree: &mut Tree,
@@ -143,7 +144,7 @@ fn make_file<S: Store>(
 
 /// CREATE. The one error is running out of memory, where the call is not refused, and the tree is then as it
 /// was.
-#[tactic(auto, using(crate::proofs::Steps::create_misnamed, crate::proofs::Steps::create_refused, crate::proofs::Steps::create_there, crate::proofs::Steps::kept_same))]
+#[tactic(auto, using(crate::proofs::Steps::by_create))]
 pub fn create<S: Store>(
     alloc: Global,
     tree: &mut Tree,
@@ -200,7 +201,7 @@ fn made_directory(
 
 /// MKDIR of a directory that is to be made. The one error is running out of memory, and the tree is then as
 /// it was.
-#[tactic(auto, using(crate::proofs::Steps::directory_made, crate::proofs::Steps::directory_id, crate::proofs::Steps::kept_ready, crate::proofs::Steps::kept_same))]
+#[tactic(auto, using(crate::proofs::Steps::by_make_directory))]
 fn make_directory<S: Store>(
     alloc: Global,
     tree: &mut Tree,
@@ -224,7 +225,7 @@ fn make_directory<S: Store>(
 
 /// MKDIR. The one error is running out of memory, where the call is not refused, and the tree is then as it
 /// was.
-#[tactic(auto, using(crate::proofs::Steps::mkdir_misnamed, crate::proofs::Steps::mkdir_refused, crate::proofs::Steps::kept_same))]
+#[tactic(auto, using(crate::proofs::Steps::by_mkdir))]
 pub fn mkdir<S: Store>(
     alloc: Global,
     tree: &mut Tree,
@@ -232,7 +233,9 @@ pub fn mkdir<S: Store>(
     held: Reservation,
     new: &NewDir,
 ) -> Result<Done, AllocError>
-    ensures ok { IfOk result (λ o. IsCalled (S.faults store.old) (S.faults store.new) (λ fault. mkdirs_in_under tree.old.tree held fault new.now.place.name (id_of new.now.place.dir)) (tree.new.tree, o)) }
+    ensures ok { IfOk result (λ o. IsCalled (S.faults store.old) (S.faults store.new)
+        (λ fault. mkdirs_in_under tree.old.tree held fault new.now.place.name
+        (id_of new.now.place.dir)) (tree.new.tree, o)) }
     ensures err { OnErr result (tree.new.tree ≡ tree.old.tree) }
     ensures takes { OnErr result (Takes tree.old.tree held false (nfs.MkDir new.now)) }
     ensures keeps { Keeps (S.records store.old) tree.old.tree (S.records store.new) tree.new.tree }
@@ -296,7 +299,7 @@ fn remove_directory<S: Store>(
 
 /// RMDIR. The one error is running out of memory for the store's place, where the call is not refused, and the
 /// tree is then as it was.
-#[tactic(auto, using(crate::proofs::Steps::rmdir_misnamed, crate::proofs::Steps::rmdir_refused, crate::proofs::Steps::called_ready, crate::proofs::Steps::kept_ready, crate::proofs::Steps::kept_same))]
+#[tactic(auto, using(crate::proofs::Steps::by_rmdir))]
 pub fn rmdir<S: Store>(
     tree: &mut Tree,
     store: &mut S,

@@ -79,7 +79,7 @@ fn remove<S: Store>(tree: &mut Tree, store: &mut S, spot: &Spot, held: Reservati
     removed(tree, before, spot.dir, outcome)
 }
 
-#[tactic(auto, using(crate::proofs::Steps::remove_again_refused, crate::proofs::Steps::remove_checked, crate::proofs::Steps::kept_same))]
+#[tactic(auto, using(crate::proofs::Steps::by_settle_remove))]
 fn settle_remove<S: Store>(
     tree: &mut Tree,
     store: &mut S,
@@ -87,7 +87,9 @@ fn settle_remove<S: Store>(
     held: Reservation,
 ) -> Done
     requires { held.entries + 1 ≤ S.spare store.old }
-    ensures done { IsCalled (S.faults store.old) (S.faults store.new) (λ fault. removes_if_under tree.old.tree held fault removing.now.spot (remove_again tree.old.tree.nodes removing.now)) (tree.new.tree, result) }
+    ensures done { IsCalled (S.faults store.old) (S.faults store.new)
+        (λ fault. removes_if_under tree.old.tree held fault removing.now.spot
+        (remove_again tree.old.tree.nodes removing.now)) (tree.new.tree, result) }
     ensures keeps { Keeps (S.records store.old) tree.old.tree (S.records store.new) tree.new.tree }
     ensures spare { held.entries ≤ S.spare store.new }
     ensures later { S.faults store.old ≤ S.faults store.new }
@@ -98,7 +100,7 @@ fn settle_remove<S: Store>(
     }
 }
 
-#[tactic(auto, using(crate::proofs::Steps::rename_again_refused, crate::proofs::Steps::rename_checked, crate::proofs::Steps::kept_same))]
+#[tactic(auto, using(crate::proofs::Steps::by_settle_rename))]
 fn settle_rename<S: Store>(
     tree: &mut Tree,
     store: &mut S,
@@ -106,7 +108,9 @@ fn settle_rename<S: Store>(
     held: Reservation,
 ) -> Done
     requires { held.entries + 2 ≤ S.spare store.old }
-    ensures done { IsCalled (S.faults store.old) (S.faults store.new) (λ fault. renames_if_under tree.old.tree held fault renaming.from renaming.to (rename_again tree.old.tree.nodes renaming)) (tree.new.tree, result) }
+    ensures done { IsCalled (S.faults store.old) (S.faults store.new)
+        (λ fault. renames_if_under tree.old.tree held fault renaming.from renaming.to
+        (rename_again tree.old.tree.nodes renaming)) (tree.new.tree, result) }
     ensures keeps { Keeps (S.records store.old) tree.old.tree (S.records store.new) tree.new.tree }
     ensures spare { held.entries ≤ S.spare store.new }
     ensures later { S.faults store.old ≤ S.faults store.new }

@@ -164,3 +164,6 @@ none_where records t e = subst (λ (a : Result Tree ℕ). Named a (broken record
 
 pub first_where : (records : List Kept) (k : ℕ) → load records ≡ Err k → Begins (Some k) (broken records)
 first_where records k e = subst (λ (a : Result Tree ℕ). Named a (broken records)) e (of_load records)
+
+-- what `broken` goes by
+pub ruleset by_broken = (none_broken, head_broken, headless)

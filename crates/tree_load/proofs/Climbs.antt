@@ -271,3 +271,6 @@ walking_last count step at jump left walking none = record {
   len = walking.at_length;
   each = λ k less. ap (λ n. walk n jump (slice_index at k)) (sym none) ∙ walking.each k less;
 }
+
+-- what `walks` goes by
+pub ruleset by_walks = (walking_first, walking_half, walking_last)

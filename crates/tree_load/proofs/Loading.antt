@@ -117,3 +117,12 @@ stored_good records h t is well same =
     let all = kept.Head h ∷ drop 1 records in
     let there : loaded_tree h all ≡ t = ap (λ z. loaded_tree h z) (sym (head_first records h is)) ∙ sym same in
     subst (λ rs. IsStored rs t) (sym (head_first records h is)) (subst (λ z. IsStored all z) there (loaded_stored h (drop 1 records) well))
+
+-- what `fault` goes by
+pub ruleset by_fault_load = (some_record, fault_well, fault_head)
+
+-- what `tree_of` goes by
+pub ruleset by_tree_of = (ids_of, apart_of, below_of, limits_of, tree_is)
+
+-- what `load` goes by
+pub ruleset by_load = (load_none, load_headless, load_bad, load_good)

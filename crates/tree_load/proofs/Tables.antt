@@ -140,3 +140,6 @@ put_is m m' k v updates q = updates.0 q ∙ ap (λ b. if b then Some v else get 
 
 pub name_put : (m m' : BTreeMap NameKey ℕ) (parent : ℕ) (name : Bor (List ℕ)) (place : ℕ) → Updates by_name m m' (parent, name) (Some place) → (q : NameKey) → get by_name m' q ≡ (if (parent == q.0) && bytes_eq name.now q.1.now then Some place else get by_name m q)
 name_put m m' parent name place updates q = updates.0 q ∙ ap (λ b. if b then Some place else get by_name m q) (name_test parent name.now q)
+
+-- what `first_places` goes by
+pub ruleset by_first_places = (nodes_none, nodes_back, names_none, names_back, contents_none, contents_back)

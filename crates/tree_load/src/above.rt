@@ -87,7 +87,7 @@ fn odd_step(
 }
 
 /// Where so many steps come to from each place. The one error is running out of memory.
-#[tactic(auto, using(crate::proofs::Climbs::walking_first, crate::proofs::Climbs::walking_half, crate::proofs::Climbs::walking_last))]
+#[tactic(auto, using(crate::proofs::Climbs::by_walks))]
 pub fn walks(alloc: Global, step: Vec<usize>, count: usize) -> Result<Vec<usize>, AllocError>
     requires within { StayWithin step.items (length step.items) }
     requires some { 0 < count }

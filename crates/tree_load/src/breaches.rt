@@ -187,7 +187,7 @@ fn held_to(is_well: bool, head: Head) -> Head
 }
 
 /// All records that break a rule, each with the first that it breaks. The one error is running out of memory.
-#[tactic(auto, using(crate::proofs::Broken::none_broken, crate::proofs::Broken::head_broken, crate::proofs::Broken::headless))]
+#[tactic(auto, using(crate::proofs::Broken::by_broken))]
 pub fn broken(alloc: Global, records: &[Kept]) -> Result<Vec<Broken>, AllocError>
     ensures { IfOk result (λ v. v.items ≡ broken records.now) }
 {

@@ -82,7 +82,7 @@ fn note<'a>(firsts: &mut Firsts<'a>, place: usize, one: &'a Kept) -> Result<(), 
 }
 
 /// Where the first records stand. The one error is running out of memory.
-#[tactic(auto, using(crate::proofs::Tables::nodes_none, crate::proofs::Tables::nodes_back, crate::proofs::Tables::names_none, crate::proofs::Tables::names_back, crate::proofs::Tables::contents_none, crate::proofs::Tables::contents_back))]
+#[tactic(auto, using(crate::proofs::Tables::by_first_places))]
 pub fn first_places<'a>(alloc: Global, records: &'a [Kept]) -> Result<Firsts<'a>, AllocError>
     ensures nodes { IfOk result (λ f. AreFirstNodes 0 records.now f.nodes) }
     ensures names { IfOk result (λ f. AreFirstNames 0 records.now f.names) }

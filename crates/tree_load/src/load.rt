@@ -25,7 +25,7 @@ pub(crate) fn first_head(records: &[Kept]) -> Option<Head>
 }
 
 /// Which record is the first that breaks a rule, where this head is the first.
-#[tactic(auto, using(crate::proofs::Loading::some_record, crate::proofs::Loading::fault_well, crate::proofs::Loading::fault_head))]
+#[tactic(auto, using(crate::proofs::Loading::by_fault_load))]
 fn fault(alloc: Global, head: Head, records: &[Kept]) -> Result<Option<usize>, AllocError>
     requires { first_head records.now ≡ Some head }
     ensures { IfOk result (λ o. o ≡ fault head (drop 1 records.now)) }
@@ -38,7 +38,7 @@ fn fault(alloc: Global, head: Head, records: &[Kept]) -> Result<Option<usize>, A
 }
 
 /// The tree of records that break no rule.
-#[tactic(auto, using(crate::proofs::Loading::ids_of, crate::proofs::Loading::apart_of, crate::proofs::Loading::below_of, crate::proofs::Loading::limits_of, crate::proofs::Loading::tree_is))]
+#[tactic(auto, using(crate::proofs::Loading::by_tree_of))]
 fn tree_of<R: Threads + Sync>(
     rt: &R,
     alloc: Global,
@@ -56,7 +56,7 @@ fn tree_of<R: Threads + Sync>(
 
 /// The tree of these records, whose contents several threads cut into chunks; an empty list is the root
 /// alone. Else the first record that breaks a rule is named, or memory ran out.
-#[tactic(auto, using(crate::proofs::Loading::load_none, crate::proofs::Loading::load_headless, crate::proofs::Loading::load_bad, crate::proofs::Loading::load_good))]
+#[tactic(auto, using(crate::proofs::Loading::by_load))]
 pub fn load<R: Threads + Sync>(rt: &R, alloc: Global, records: Vec<Kept>) -> Result<Tree, LoadError>
     ensures exact { Loads (load records.items) result }
     ensures stored { IfOk result (λ t. IsStored records.items t.tree) }

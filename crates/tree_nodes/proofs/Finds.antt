@@ -85,3 +85,6 @@ named_there slots order dir name place sorted there is =
     let found = some_of (named (shown slots order) dir name) there in
     let at : slice_get (shown slots order) place ≡ Some found.0 = ap (λ i. slice_get (shown slots order) i) is ∙ kept_is (is_named dir name) (slice_get (shown slots order) (place_for (shown slots order) dir name)) found.0 (name_found slots order dir name sorted ∙ found.1) in
     (found.1 ∙ sym at, shown_within slots order place found.0 at)
+
+-- what `place_for` goes by
+pub ruleset by_place_for = (order_past, order_stays, order_end)

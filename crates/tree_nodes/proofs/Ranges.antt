@@ -123,3 +123,6 @@ count_between ns dir a b sorted from to =
 pub length_shown : (slots : List Slot) (order : List ℕ) → length (shown slots order) ≡ length order
 length_shown slots [] = refl
 length_shown slots (k ∷ ks) = ap (λ n. suc n) (length_shown slots ks)
+
+-- what `places` goes by
+pub ruleset by_places = (names_between, count_between, places_rise, places_end)

@@ -55,3 +55,6 @@ stands_at slots id (suc q) rising within is =
     let first : slot_id one.0 < id = omega (arith, less, same) in
     let below : id_or (slice_get slots q) < id = subst (λ o. id_or o < id) (sym one.1) first in
     omega (arith, stays slots id (suc q) within (omega (arith, is)), goes_past slots id q rising earlier below)
+
+-- what `searched` goes by
+pub ruleset by_searched = (from_high, goes_past, stays)

@@ -153,7 +153,12 @@ impl Nodes {
     pub fn rename(&mut self, dir: u64, name: &[u8], to: u64, to_name: Name)
         requires there { IsSome (named self.old.nodes dir name.now) }
         requires fresh { named self.old.nodes to to_name ≡ None }
-        ensures done { (n : Node) → named self.old.nodes dir name.now ≡ Some n → self.new ≡ record self.old { nodes = with_node (without self.old.nodes n.id) (record n { parent = to; name = to_name }); room = self.new.room } }
+        ensures done { (n : Node) → named self.old.nodes dir name.now ≡ Some n
+            → self.new ≡ record self.old {
+              nodes = with_node (without self.old.nodes n.id)
+                  (record n { parent = to; name = to_name });
+              room = self.new.room;
+            } }
         ensures room { self.old.room ≤ self.new.room }
     {
         let place = table::place_named(&self.table.slots, &self.table.order, dir, name);

@@ -52,7 +52,7 @@ pub fn first_from(slots: &Vec<Slot>, id: u64) -> usize
 }
 
 /// The same by halves.
-#[tactic(auto, using(crate::proofs::Rising::from_high, crate::proofs::Rising::goes_past, crate::proofs::Rising::stays))]
+#[tactic(auto, using(crate::proofs::Rising::by_searched))]
 fn searched(slots: &Vec<Slot>, id: u64) -> usize
     requires { AreRising slots.now.items }
     ensures { result ≡ first_from slots.now.items id }

@@ -21,7 +21,7 @@ use server_rules::tree::next_once_gone;
 use std::alloc::{AllocError, Global};
 
 /// The place of a name in the order of the nodes, or where it would be.
-#[tactic(auto, using(crate::proofs::Finds::order_past, crate::proofs::Finds::order_stays, crate::proofs::Finds::order_end))]
+#[tactic(auto, using(crate::proofs::Finds::by_place_for))]
 pub fn place_for(slots: &Slots, order: &BlockList, dir: u64, name: &[u8]) -> usize
     requires { AreInOrder (shown slots.now.items order.now.items) }
     ensures exact { result ≡ place_for (shown slots.now.items order.now.items) dir name.now }
@@ -52,7 +52,7 @@ pub fn place_named(slots: &Slots, order: &BlockList, dir: u64, name: &[u8]) -> u
 }
 
 /// From which place on, and up to which one, the nodes of a directory stand in the order.
-#[tactic(auto, using(crate::proofs::Ranges::names_between, crate::proofs::Ranges::count_between, crate::proofs::Ranges::places_rise, crate::proofs::Ranges::places_end))]
+#[tactic(auto, using(crate::proofs::Ranges::by_places))]
 pub fn places(slots: &Slots, order: &BlockList, dir: u64) -> (usize, usize)
     requires sorted { AreInOrder (shown slots.now.items order.now.items) }
     requires dir { dir < 2 ^ 64 - 1 }

@@ -152,7 +152,7 @@ fn listed(
 }
 
 /// READDIR: the names behind a cookie, in an answer of at most so many bytes.
-#[tactic(auto, using(crate::proofs::lemmas::Found::id_fits, crate::proofs::lemmas::Found::version_fits))]
+#[tactic(auto, using(crate::proofs::lemmas::Found::by_list))]
 pub fn list(
     alloc: Global,
     nodes: &Nodes,

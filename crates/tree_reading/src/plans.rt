@@ -4,7 +4,8 @@
 ghost use Rattle.std.specs.Prelude.{◌≡◌, ◌+◌, ◌-◌, ◌<◌, ◌≤◌, ◌^◌, ◌==◌, IfOk, IfSome};
 ghost use Rattle.std.specs.Option.{option_copied};
 ghost use Rattle.tree_reading.specs.Tree.{contents_size, node_of};
-ghost use Rattle.tree_reading.specs.Plans.{create_found, may_create, may_mkdir, may_remove, may_rmdir, planned_over, planned_found, rename_plan, may_replace_content, create_plan, remove_plan, rmdir_plan, replace_plan, is_same};
+ghost use Rattle.tree_reading.specs.Plans.{create_found, may_create, may_mkdir, may_remove, may_rmdir, planned_over, planned_found, rename_plan, may_replace_content, create_plan, remove_plan};
+ghost use Rattle.tree_reading.specs.Plans.{rmdir_plan, replace_plan, is_same};
 ghost use Rattle.tree_reading.specs.declared.call.CreateMode.TheVariants.{Guarded, Unchecked};
 ghost use Rattle.tree_reading.specs.View.{lent, lent_option, tree_of, AreBounded, IsNodeBounded};
 

@@ -5,7 +5,8 @@ ghost use Rattle.std.specs.Option.{option_copied};
 ghost use Rattle.tree_nodes.specs.Nodes.{with_id};
 ghost use Rattle.tree_reading.specs.Tree.{content_of, node_of, file_most};
 ghost use Rattle.tree_reading.specs.View.{lent, lent_list, AreBounded, IsNodeBounded};
-ghost use Rattle.tree_reading.specs.Reading.{time_of, file_attr, attr_of, attr, above, looked, lookup, piece_bytes, piece_of, read, content, chunks_in, chunks, version, standing_of, stands_for, Answers};
+ghost use Rattle.tree_reading.specs.Reading.{time_of, file_attr, attr_of, attr, above, looked, lookup, piece_bytes, piece_of, read, content, chunks_in, chunks, version, standing_of, stands_for};
+ghost use Rattle.tree_reading.specs.Reading.{Answers};
 
 use crate::error::TreeError;
 use crate::finding::{self, directory_within, known};
@@ -94,7 +95,7 @@ pub fn attr_of(nodes: &Nodes, node: &Node) -> Attr
 }
 
 /// The attributes of a node of a tree.
-#[tactic(auto, using(crate::proofs::lemmas::Found::id_fits, crate::proofs::lemmas::Found::version_fits))]
+#[tactic(auto, using(crate::proofs::lemmas::Found::by_attr_within))]
 fn attr_within(nodes: &Nodes, changes: u64, node: &Node) -> Attr
     requires bounded { AreBounded nodes.now changes }
     requires node { IsNodeBounded nodes.now.next changes node.now }

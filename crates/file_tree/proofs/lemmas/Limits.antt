@@ -11,6 +11,7 @@ use Rattle.tree_reading.specs.Tree.{content_of, contents_size, size_in, changes_
 use Rattle.tree_reading.specs.View.{IsNodeBounded, AreBounded}
 use Rattle.file_tree.specs.View.{AreIdsApart, IsWithinLimits}
 use Rattle.tree_reading.proofs.lemmas.Found.{some_is, found_all}
+use Rattle.tree_reading.proofs.lemmas.Admitted.{remove_there, rmdir_there, replace_there}
 
 -- ---- each node
 
@@ -247,3 +248,15 @@ bounds s changes l = record {
   changes_most = omega (arith, l.count);
   each = l.each;
 }
+
+-- what `bytes_in` goes by
+pub ruleset by_bytes_in = (size_from, size_past)
+
+-- what `remove` goes by
+pub ruleset by_remove = (bounds, remove_there)
+
+-- what `rmdir` goes by
+pub ruleset by_rmdir = (bounds, rmdir_there)
+
+-- what `replace` goes by
+pub ruleset by_replace = (bounds, replace_there)

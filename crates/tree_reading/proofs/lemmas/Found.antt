@@ -87,3 +87,9 @@ looked_ok nodes changes d name (Err s) bounded is e = tt
 pub node_short : (nodes : NodesState) (changes id : ℕ) (o : Option (Bor Node)) → AreBounded nodes changes → option_copied o ≡ with_id nodes.nodes id → IfSome o (λ n. length (content_of n.now.body) ≤ file_most)
 node_short nodes changes id None l e = tt
 node_short nodes changes id (Some n) l e = (found_all (IsNodeBounded nodes.next changes) (λ m. m.id == id) nodes.nodes n.now l.each (sym e)).content
+
+-- what `list` goes by
+pub ruleset by_list = (id_fits, version_fits)
+
+-- what `attr_within` goes by
+pub ruleset by_attr_within = (id_fits, version_fits)
