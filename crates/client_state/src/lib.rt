@@ -7,6 +7,7 @@
 #![tactic(auto)]
 
 pub mod bounding;
+pub mod fields;
 pub mod hints;
 pub mod local;
 pub mod noting;

@@ -63,7 +63,7 @@ fn filled(alloc: Global, bytes: &[u8], offset: u64, size: u64) -> Result<Vec<u8>
 }
 
 /// The content with some bytes written at a place.
-#[tactic(auto, using(crate::proofs::lemmas::Edits::written_some, crate::proofs::lemmas::Edits::written_length))]
+#[tactic(auto, using(crate::proofs::lemmas::Edits::by_written))]
 pub fn written(
     alloc: Global,
     bytes: &[u8],

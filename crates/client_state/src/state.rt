@@ -45,24 +45,24 @@ pub struct ClientState {
     /// Whether a connection is joined.
     pub(crate) linked: bool,
     /// The xid of the next call on it.
-    pub next_xid: u32,
+    pub(crate) next_xid: u32,
     /// The number of the next temporary file on it.
     pub(crate) next_temp: u32,
     /// The open files by their ids.
     pub(crate) opened: BTreeMap<u64, Local>,
     /// The operation under way.
-    pub task: Option<Task>,
+    pub(crate) task: Option<Task>,
     /// The calls that have no answer yet: those of the operation under way, and behind them those of
     /// ended operations and attempts.
-    pub waiting: Waiting,
+    pub(crate) waiting: Waiting,
     /// How many of them are of the operation under way.
     pub(crate) own: usize,
     /// What is kept of files.
-    pub cache: Cache,
+    pub(crate) cache: Cache,
     /// Where the bytes of chunks may be found among what is kept.
-    pub index: Index,
+    pub(crate) index: Index,
     /// The reading of its clock at the last command or message, in milliseconds.
-    pub clock: u64,
+    pub(crate) clock: u64,
     /// The reading at which a call went out last that may bring a lease.
     pub(crate) sent: u64,
     /// How far its clock and the server's may drift apart while a lease lasts, in milliseconds.
@@ -247,7 +247,7 @@ impl ClientState {
 
     /// The operation under way has come this far, this is the next xid, and these calls wait, of which
     /// so many are its own. It takes no memory.
-    #[tactic(auto, using(crate::proofs::lemmas::Pending::drop_front, crate::proofs::lemmas::Pending::front_fits))]
+    #[tactic(auto, using(crate::proofs::lemmas::Pending::by_set_waiting))]
     pub fn set_waiting(
         &mut self,
         calls: Items<Pending>,
@@ -309,7 +309,15 @@ impl ClientState {
         requires held { IsHeld self.old }
         requires xids { HasXids (self.old.next_xid + 1) (stage.Making 0 0) }
         ensures temp { IfOk result (λ temp. temp ≡ self.old.next_temp) }
-        ensures ok { OnOk result (state_of self.new ≡ record (state_of self.old) { next_xid = self.old.next_xid + 1; next_temp = self.old.next_temp + 1; task = Some (record { file = file; stage = stage.Making self.old.next_xid self.old.next_temp }) }) }
+        ensures ok { OnOk result (state_of self.new
+            ≡ record (state_of self.old) {
+              next_xid = self.old.next_xid + 1;
+              next_temp = self.old.next_temp + 1;
+              task = Some (record {
+                file = file;
+                stage = stage.Making self.old.next_xid self.old.next_temp;
+              });
+            }) }
         ensures err { OnErr result (whole_of self.new ≡ whole_of self.old) }
         ensures sound { OnOk result (IsSound self.new) }
         ensures held { OnErr result (IsHeld self.new) }
@@ -334,7 +342,13 @@ impl ClientState {
         requires rises { self.old.next_xid ≤ next_xid }
         requires xids { HasXids next_xid stage }
         requires within { IsWithin stage }
-        ensures ok { OnOk result (state_of self.new ≡ record (state_of self.old) { next_xid = next_xid; task = Some (record { file = file; stage = stage }); cache = reserved self.old.cache file; sent = self.old.clock }) }
+        ensures ok { OnOk result (state_of self.new
+            ≡ record (state_of self.old) {
+              next_xid = next_xid;
+              task = Some (record { file = file; stage = stage });
+              cache = reserved self.old.cache file;
+              sent = self.old.clock;
+            }) }
         ensures err { OnErr result (whole_of self.new ≡ whole_of self.old) }
         ensures sound { OnOk result (IsSound self.new) }
         ensures held { OnErr result (IsHeld self.new) }
@@ -372,7 +386,13 @@ impl ClientState {
         requires xids { HasXids (self.old.next_xid + 1) (stage.Hashing tries self.old.next_xid) }
         requires within { IsWithin (stage.Hashing tries self.old.next_xid) }
         requires there { IsThere self.old.cache file }
-        ensures ok { OnOk result (state_of self.new ≡ record (forgets (state_of self.old) self.old.waiting.calls xid) { next_xid = self.old.next_xid + 1; task = Some (record { file = file; stage = stage.Hashing tries self.old.next_xid }); sent = self.old.clock }) }
+        ensures ok { OnOk result (state_of self.new
+            ≡ record (forgets
+            (state_of self.old) self.old.waiting.calls xid) {
+              next_xid = self.old.next_xid + 1;
+              task = Some (record { file = file; stage = stage.Hashing tries self.old.next_xid });
+              sent = self.old.clock;
+            }) }
         ensures err { OnErr result (whole_of self.new ≡ whole_of self.old) }
         ensures sound { OnOk result (IsSound self.new) }
         ensures held { OnErr result (IsHeld self.new) }
@@ -440,7 +460,7 @@ impl ClientState {
 
     /// The file is no longer open, and this was its local content; nothing where it wasn't open. It
     /// takes no memory.
-    #[tactic(auto, using(crate::proofs::lemmas::Bounds::locals_without, crate::proofs::lemmas::Locals::remove_is_without))]
+    #[tactic(auto, using(crate::proofs::lemmas::Locals::by_take_local))]
     pub fn take_local(&mut self, file: u64) -> CutBytes
         requires { IsBase self.old }
         ensures bytes { result ≡ local_bytes self.old.opened.entries file }
@@ -575,13 +595,15 @@ impl ClientState {
         parts::ends(alloc, Outcome::Refused(status), xid, 0)
     }
 
-    /// The operation ends by a refusal of its call.
+    /// The operation under way ends by a refusal of its call.
     pub fn denied(&mut self, alloc: Global, xid: u32, refusal: RpcRefusal) -> ClientStep
-        requires { IsHeld self.old }
-        ensures ok { denied (state_of self.old) self.old.waiting.calls xid refusal ≡ (state_of self.new, result) }
+        requires { IsBase self.old }
+        ensures ok { denied (idle (state_of self.old)) self.old.waiting.calls xid refusal ≡ (state_of self.new, result) }
         ensures done { result.missed ≡ false }
         ensures sound { IsSound self.new }
     {
+        let task = self.task.take();
+        drop(task);
         match refusal {
             RpcRefusal::SystemErr => {
                 self.forget(alloc, xid);

@@ -1,8 +1,9 @@
 //! What a client has under way. `specs/State.antt` says which calls wait in each stage.
 
 use chunk_cut::chunk::Chunk;
+use chunk_slots::Slots;
 use cut_bytes::CutBytes;
-use lb_base::items::{Bytes, Items};
+use lb_base::items::Items;
 use path_calls::walk::Walk;
 
 /// What a client has of an open file. It stands under the file's id.
@@ -37,7 +38,7 @@ pub struct Fetch {
     /// The chunks that are told so far, from the file's first on.
     pub chunks: Items<Chunk>,
     /// The bytes of each chunk, where they have come. There are none before all chunks are told.
-    pub slots: Items<Option<Bytes>>,
+    pub slots: Slots,
     /// How many chunks were asked for, in order.
     pub asked: usize,
     /// The READs under way.

@@ -10,6 +10,7 @@ ghost use Rattle.std.specs.Option.{option_copied};
 ghost use Rattle.client_state.specs.declared.task.Stage.TheVariants as stage;
 
 use crate::messages;
+use client_state::state::ClientState;
 use client_state::task::{Upload, UploadCall, Way};
 use lb_base::items::Items;
 use send_list::SendList;
@@ -25,19 +26,19 @@ pub struct Names {
     pub send: SendList<Message>,
 }
 
-/// The next chunk is named in a version of LBFS, if there is one.
+/// The next chunk is named in the client's version of LBFS, if there is one.
 #[tactic(auto, using(client_state::proofs::lemmas::Bounds::chunk_bounded))]
-fn name_next(lbfs: u32, names: &mut Names) -> Result<(), AllocError>
+fn name_next(state: &ClientState, names: &mut Names) -> Result<(), AllocError>
     requires xid { names.old.next_xid + 1 < 4294967296 }
     requires lens { All IsChunkBounded names.old.store.chunks }
-    ensures { OnOk result (names.new ≡ names_next lbfs names.old (slice_get names.old.store.chunks names.old.store.named)) }
+    ensures { OnOk result (names.new ≡ names_next state.now.waiting.lbfs names.old (slice_get names.old.store.chunks names.old.store.named)) }
 {
     let index = names.store.named;
     let Some(chunk) = next_chunk(names.store.chunks.as_slice(), index) else {
         return Ok(());
     };
     let xid = names.next_xid;
-    let call = messages::cond_call(lbfs, xid, names.store.temp, &chunk);
+    let call = messages::cond_call(state.lbfs(), xid, names.store.temp, &chunk);
     names.send.push(call)?;
     let way = Way::Named;
     names.store.under.push(UploadCall { xid, index, way })?;
@@ -46,21 +47,21 @@ fn name_next(lbfs: u32, names: &mut Names) -> Result<(), AllocError>
     Ok(())
 }
 
-/// All CONDWRITEs, in a version of LBFS, that may be under way beside the calls that are.
-pub fn name_all(alloc: Global, lbfs: u32, store: Upload, next_xid: u32) -> Result<Names, AllocError>
+/// All CONDWRITEs that may be under way beside the calls that are.
+pub fn name_all(alloc: Global, state: &ClientState, store: Upload) -> Result<Names, AllocError>
     requires within { IsStore store }
-    requires xids { HasXids next_xid (stage.Storing store) }
-    ensures all { IfOk result (λ n. n ≡ names_all lbfs store next_xid) }
-    ensures kept { IfOk result (λ n. IsSendingNames store.named next_xid n) }
+    requires xids { HasXids state.now.next_xid (stage.Storing store) }
+    ensures all { IfOk result (λ n. n ≡ names_all state.now.waiting.lbfs store state.now.next_xid) }
+    ensures kept { IfOk result (λ n. IsSendingNames store.named state.now.next_xid n) }
 {
     let room = room_beside(store.under.len());
     let mut names = Names {
         store,
-        next_xid,
+        next_xid: state.next_xid(),
         send: SendList::none(alloc),
     };
     for _i in 0..room {
-        match name_next(lbfs, &mut names) {
+        match name_next(state, &mut names) {
             Ok(()) => {}
             Err(error) => {
                 let Names {

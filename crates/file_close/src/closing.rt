@@ -39,7 +39,7 @@ pub fn close(alloc: Global, state: &mut ClientState, file: u64) -> Result<Client
     ensures sure { OnErr result (MayMissOn state.old.task (local_at state.old.opened.entries file) (λ l. may_ask (state_of state.old) ≡ true)) }
     ensures sound { IsSound state.new }
 {
-    if state.task.is_some() {
+    if state.is_busy() {
         return Ok(parts::ends(alloc, Outcome::Busy, 0, 0));
     }
     if !state.is_open(file) {
@@ -62,8 +62,8 @@ fn ask_temp(alloc: Global, state: &mut ClientState, file: u64) -> Result<ClientS
     ensures err { OnErr result (state_of state.new ≡ state_of state.old) }
     ensures sound { IsSound state.new }
 {
-    let lbfs = state.waiting.lbfs;
-    let xid = state.next_xid;
+    let lbfs = state.lbfs();
+    let xid = state.next_xid();
     let handle = Handle::of_file(alloc, file)?;
     let temp = state.wait_temp(alloc, file)?;
     let call = messages::make_call(lbfs, xid, temp, handle);
@@ -80,7 +80,13 @@ fn wait_commit(
     requires held { IsHeld state.old }
     requires rises { state.old.next_xid ≤ xid }
     requires xid { xid + 1 < 4294967296 }
-    ensures ok { OnOk result (state_of state.new ≡ record (state_of state.old) { next_xid = xid + 1; cache = without_note (reserved state.old.cache file) file; task = Some (record { file = file; stage = stage.Committing xid }); sent = state.old.clock }) }
+    ensures ok { OnOk result (state_of state.new
+        ≡ record (state_of state.old) {
+          next_xid = xid + 1;
+          cache = without_note (reserved state.old.cache file) file;
+          task = Some (record { file = file; stage = stage.Committing xid });
+          sent = state.old.clock;
+        }) }
     ensures err { OnErr result (whole_of state.new ≡ whole_of state.old) }
     ensures sound { OnOk result (IsSound state.new) }
     ensures held { OnErr result (IsHeld state.new) }
@@ -114,7 +120,7 @@ fn ask_commit(
         next_xid,
         mut send,
     } = names;
-    let lbfs = state.waiting.lbfs;
+    let lbfs = state.lbfs();
     let temp = store.temp;
     drop(store);
     let size = state.local_bytes(file).len() as u64;
@@ -169,7 +175,7 @@ fn go_on(
     ensures held { OnErr result (IsHeld state.new) }
 {
     let named = store.named;
-    let names = calls::name_all(alloc, state.waiting.lbfs, store, state.next_xid)?;
+    let names = calls::name_all(alloc, &*state, store)?;
     let count = (names.store.named - named) as u64;
     if calls::is_stored(&names.store) {
         ask_commit(alloc, state, file, names, count)
@@ -204,7 +210,9 @@ pub fn store(
 ) -> Result<ClientStep, AllocError>
     requires held { IsHeld state.old }
     requires xids { HasXids state.old.next_xid (stage.Making 0 temp) }
-    ensures ok { IfOk result (λ a. goes_on (state_of state.old) file (local_bytes state.old.opened.entries file) (store_of temp (local_bytes state.old.opened.entries file)) ≡ (state_of state.new, a)) }
+    ensures ok { IfOk result (λ a. goes_on (state_of state.old) file
+        (local_bytes state.old.opened.entries file)
+        (store_of temp (local_bytes state.old.opened.entries file)) ≡ (state_of state.new, a)) }
     ensures done { IfOk result (λ a. a.missed ≡ false) }
     ensures err { OnErr result (whole_of state.new ≡ whole_of state.old) }
     ensures sound { OnOk result (IsSound state.new) }
@@ -215,7 +223,7 @@ pub fn store(
 }
 
 /// The bytes of a chunk go out in the place of its name. An `Err` changes nothing.
-#[tactic(auto, using(crate::proofs::lemmas::Sending::whole_xids, crate::proofs::lemmas::Sending::whole_within))]
+#[tactic(auto, using(crate::proofs::lemmas::Sending::by_send_whole))]
 fn send_whole(
     alloc: Global,
     state: &mut ClientState,
@@ -233,8 +241,8 @@ fn send_whole(
     ensures sound { OnOk result (IsSound state.new) }
     ensures held { OnErr result (IsHeld state.new) }
 {
-    let lbfs = state.waiting.lbfs;
-    let xid = state.next_xid;
+    let lbfs = state.lbfs();
+    let xid = state.next_xid();
     let temp = store.temp;
     let content = state.local_bytes(file);
     let bytes = stores::bytes_count(content, chunk);
@@ -329,7 +337,7 @@ pub fn closed(
 {
     let content = state.take_local(file).hashed();
     let step = stores::closed(alloc, file, version, &content, xid);
-    state.cache.keep_cut(file, version, content);
+    state.keep(file, version, content);
     state.forget(alloc, xid);
     step
 }

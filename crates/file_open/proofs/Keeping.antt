@@ -20,6 +20,7 @@ use Rattle.client_state.specs.State.{State}
 use Rattle.file_open.specs.Fetching.{asks_kept, tries_anew}
 use Rattle.client_state.specs.View.{IsContentBounded, IsKeptBounded}
 use Rattle.client_state.specs.declared.task.Stage.TheVariants as stage
+use Rattle.client_state.proofs.lemmas.Pending.{held_of, sound_kept, sound_again}
 
 none_some : {b : List ℕ} → None ≡ Some b → ⊥
 none_some e = cc
@@ -105,3 +106,9 @@ asks_version s file (Some c) e = refl
 pub asks_hashes : (s : State) (file : ℕ) (o : Option Content) → is_some o ≡ false → asks_kept s file o ≡ tries_anew s file 1 0
 asks_hashes s file None e = refl
 asks_hashes s file (Some c) e = absurd (apart (sym e))
+
+-- what `open_fresh` goes by
+pub ruleset by_open_fresh = (held_of, sound_kept)
+
+-- what `ask_linked` goes by
+pub ruleset by_ask_linked = (held_of, sound_again)

@@ -9,6 +9,7 @@ use Rattle.client_state.specs.declared.task.ReadCall.{ReadCall}
 use Rattle.file_open.specs.Opening.{listed, slots_bytes, with_bytes}
 use Rattle.transfer_rules.specs.Limits.{file_limit}
 use Rattle.client_state.specs.View.{FitsIn, IsFetch, IsReading, length_sum}
+use Rattle.client_state.proofs.lemmas.Bounds.{chunk_bounded}
 
 pub fits_length : (slots : List (Option (List ℕ))) (cs : List Chunk) → FitsIn slots cs → length slots ≡ length cs
 fits_length [] [] h = refl
@@ -78,3 +79,6 @@ pub bytes_kept : (f : Fetch) (call : ReadCall) (c : Chunk) (b : List ℕ) → Is
 bytes_kept f call c b h e l =
     let k = h.0 in
     (record { sum = k.sum; size = k.size; limit = k.limit; few = k.few; lens = k.lens; tries = k.tries }, set_fits f.slots f.chunks call.index c b h.1 e l, h.2)
+
+-- what `read_next` goes by
+pub ruleset by_read_next = (chunk_bounded, slot_there)

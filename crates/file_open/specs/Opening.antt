@@ -20,6 +20,7 @@ use Rattle.client_state.specs.declared.task.Fetch.{Fetch}
 use Rattle.client_state.specs.declared.task.ReadCall.{ReadCall}
 use Rattle.file_open.specs.Caching.{from_index}
 use Rattle.file_open.specs.Shape.{with_pairs}
+pub use Rattle.chunk_slots.specs.Slots.{slots_bytes}
 pub use Rattle.file_open.specs.declared.calls.Reads.{Reads}
 
 -- ---- the calls
@@ -83,12 +84,6 @@ looked_up f r = take (r.fetch.asked - f.asked) (drop f.asked r.fetch.chunks)
 -- all chunks are here
 abbrev pub is_here : Fetch → Bool
 is_here f = all_came f.under f.asked (length f.chunks)
-
--- the bytes of all chunks that have come
-abbrev pub slots_bytes : List (Option (List ℕ)) → List ℕ
-slots_bytes [] = []
-slots_bytes (None ∷ slots) = slots_bytes slots
-slots_bytes (Some bytes ∷ slots) = bytes ++ slots_bytes slots
 
 -- ---- an answer to a READ
 

@@ -10,9 +10,8 @@ ghost use Rattle.client_state.specs.declared.task.Stage.TheVariants as stage;
 
 use crate::{caching, fetch, messages};
 use chunk_cut::chunk::Chunk;
-use chunk_index::index::Index;
-use client_cache::cache::Cache;
 use client_state::parts;
+use client_state::state::ClientState;
 use client_state::step::ClientStep;
 use client_state::task::{Fetch, ReadCall};
 use lb_base::items::{Bytes, Items};
@@ -71,7 +70,7 @@ fn take_chunk(
 {
     match kept {
         Some(bytes) => {
-            fetch::fill_slot(alloc, &mut reads.fetch, place, bytes);
+            fetch::fill_slot(&mut reads.fetch, place, bytes);
             reads.fetch.asked = place + 1;
             Ok(())
         }
@@ -80,23 +79,22 @@ fn take_chunk(
 }
 
 /// The next chunk is looked up, if there is one, and where it isn't kept it is asked for.
-#[tactic(auto, using(client_state::proofs::lemmas::Bounds::chunk_bounded, crate::proofs::Slots::slot_there))]
+#[tactic(auto, using(crate::proofs::Slots::by_read_next))]
 fn read_next(
     alloc: Global,
-    cache: &Cache,
-    index: &Index,
+    state: &ClientState,
     file: u64,
     reads: &mut Reads,
 ) -> Result<(), AllocError>
     requires xid { reads.old.next_xid + 1 < 4294967296 }
     requires within { IsReading reads.old.fetch }
-    ensures { OnOk result (reads.new ≡ reads_next cache.now index.now file reads.old (slice_get reads.old.fetch.chunks reads.old.fetch.asked)) }
+    ensures { OnOk result (reads.new ≡ reads_next state.now.cache state.now.index file reads.old (slice_get reads.old.fetch.chunks reads.old.fetch.asked)) }
 {
     let place = reads.fetch.asked;
     let Some(chunk) = next_chunk(reads.fetch.chunks.as_slice(), place) else {
         return Ok(());
     };
-    let kept = caching::from_index(alloc, cache, index, &chunk)?;
+    let kept = caching::from_index(alloc, state, &chunk)?;
     take_chunk(alloc, file, reads, place, &chunk, kept)
 }
 
@@ -114,21 +112,19 @@ pub fn let_go(reads: Reads) {
 /// The chunks that are left are taken from what is kept, or asked for, while calls may be under way.
 pub fn read_all(
     alloc: Global,
-    cache: &Cache,
-    index: &Index,
+    state: &ClientState,
     file: u64,
     fetch: Fetch,
-    next_xid: u32,
 ) -> Result<Reads, AllocError>
     requires within { IsReading fetch }
-    requires xids { HasXids next_xid (stage.Reading fetch) }
-    ensures all { IfOk result (λ r. r ≡ reads_all cache.now index.now file fetch next_xid) }
-    ensures sending { IfOk result (λ r. IsSendingReads fetch next_xid r) }
+    requires xids { HasXids state.now.next_xid (stage.Reading fetch) }
+    ensures all { IfOk result (λ r. r ≡ reads_all state.now.cache state.now.index file fetch state.now.next_xid) }
+    ensures sending { IfOk result (λ r. IsSendingReads fetch state.now.next_xid r) }
 {
     let left = fetch.chunks.len() - fetch.asked;
     let mut reads = Reads {
         fetch,
-        next_xid,
+        next_xid: state.next_xid(),
         send: SendList::none(alloc),
     };
     for _i in 0..left {
@@ -136,7 +132,7 @@ pub fn read_all(
         if !has_room(under) {
             return Ok(reads);
         }
-        match read_next(alloc, cache, index, file, &mut reads) {
+        match read_next(alloc, state, file, &mut reads) {
             Ok(()) => {}
             Err(error) => {
                 let_go(reads);

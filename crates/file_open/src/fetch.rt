@@ -1,11 +1,13 @@
 //! What a fetch has of a file. `specs/Opening.antt` says how it grows.
 
-ghost use Rattle.std.specs.Prelude.{◌≡◌, ◌<◌, ◌≤◌, length, None, Some, IfOk, replicate, slice_set};
-ghost use Rattle.file_open.specs.Opening.{with_bytes, fetch_of, with_hashes, listed, slots_bytes};
+ghost use Rattle.std.specs.Prelude.{◌≡◌, ◌<◌, ◌≤◌, length, Some, IfOk, slice_set};
+ghost use Rattle.file_open.specs.Opening.{with_bytes, fetch_of, with_hashes, listed};
+ghost use Rattle.chunk_slots.specs.Slots.{slots_bytes};
 ghost use Rattle.limits.specs.declared.TheConstants.{FILE_MOST, PAIRS_MOST};
 ghost use Rattle.chunk_cut.specs.Places.{end_of};
 
 use crate::{calls, shape};
+use chunk_slots::Slots;
 use client_state::task::{Fetch, ReadCall};
 use hash_calls::call::Hashes;
 use lb_base::items::{Bytes, Items};
@@ -13,7 +15,6 @@ use nfs3_calls::call::Piece;
 use shared_bytes::SharedBytes;
 use std::alloc::{AllocError, Global};
 use std::mem;
-use transfer_rules::chunks::filled;
 
 /// An attempt whose first GETHASH had this xid, before its answer's chunks are listed. It takes no
 /// memory.
@@ -26,7 +27,7 @@ pub fn fetch_of(alloc: Global, tries: u32, xid: u32, hashes: &Hashes) -> Fetch
         version: hashes.version,
         size: hashes.size,
         chunks: Items::new(alloc),
-        slots: Items::new(alloc),
+        slots: Slots::none(alloc),
         asked: 0,
         under: Items::new(alloc),
     }
@@ -42,40 +43,28 @@ pub fn with_hashes(mut fetch: Fetch, hashes: &Hashes) -> Result<Fetch, AllocErro
     Ok(fetch)
 }
 
-/// So many empty slots.
-fn empty_slots(alloc: Global, count: usize) -> Result<Items<Option<Bytes>>, AllocError>
-    ensures { IfOk result (λ slots. slots ≡ replicate count None) }
-{
-    let mut slots = Vec::with_capacity(alloc, count)?;
-    for _i in 0..count {
-        slots.push(None)?;
-    }
-    Ok(Items::from_vec(slots))
-}
-
-/// All chunks of the fetch are told, and none has come.
+/// All chunks of the fetch are told, and none has come. Room for the file is taken.
 pub fn listed(alloc: Global, mut fetch: Fetch) -> Result<Fetch, AllocError>
     ensures { IfOk result (λ f. f ≡ listed fetch) }
 {
-    fetch.slots = empty_slots(alloc, fetch.chunks.len())?;
+    fetch.slots = Slots::empty(alloc, fetch.chunks.len(), fetch.size as usize)?;
     Ok(fetch)
 }
 
-/// The bytes of the chunk at this place are here. It takes no memory.
-pub fn fill_slot(alloc: Global, fetch: &mut Fetch, place: usize, bytes: Bytes)
+/// The bytes of the chunk at this place are here.
+pub fn fill_slot(fetch: &mut Fetch, place: usize, bytes: Bytes)
     requires { place < length fetch.old.slots }
     ensures { fetch.new ≡ record fetch.old { slots = slice_set fetch.old.slots place (Some bytes) } }
 {
-    let slots = mem::replace(&mut fetch.slots, Items::new(alloc));
-    fetch.slots = filled(slots, place, bytes);
+    fetch.slots.fill(place, bytes);
 }
 
-/// The bytes have come that a READ asked for. It takes no memory.
+/// The bytes have come that a READ asked for.
 pub fn with_bytes(mut fetch: Fetch, call: ReadCall, bytes: Bytes) -> Fetch
     requires { call.index < length fetch.slots }
     ensures { result ≡ with_bytes fetch call bytes }
 {
-    fetch.slots = filled(fetch.slots, call.index, bytes);
+    fetch.slots.fill(call.index, bytes);
     fetch.under = calls::without_read(fetch.under, call.xid);
     fetch
 }
@@ -92,19 +81,10 @@ pub fn take_piece(alloc: Global, piece: &mut Piece) -> Piece
     }
 }
 
-/// The bytes of all chunks that have come, in room that is taken once.
-pub fn slots_bytes(
-    alloc: Global,
-    slots: &[Option<Bytes>],
-    size: u64,
-) -> Result<SharedBytes, AllocError>
-    ensures { IfOk result (λ b. b ≡ slots_bytes slots.now) }
+/// The bytes of all chunks that have come, with an owner of their own.
+pub fn slots_bytes(alloc: Global, slots: Slots) -> Result<SharedBytes, AllocError>
+    ensures { IfOk result (λ b. b ≡ slots_bytes slots) }
 {
-    let mut whole = Vec::with_capacity(alloc, size as usize)?;
-    for slot in slots {
-        if let Some(bytes) = slot {
-            whole.extend_from_slice(bytes.as_slice())?;
-        }
-    }
-    Ok(SharedBytes::new(alloc, Items::from_vec(whole))?)
+    let bytes = slots.into_bytes(alloc)?;
+    Ok(SharedBytes::new(alloc, bytes)?)
 }

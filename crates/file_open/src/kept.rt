@@ -65,7 +65,12 @@ pub fn keep_open(
     requires there { IsThere state.old.cache file }
     requires small { length content ≤ FILE_MOST }
     ensures ok { IfOk result (λ a. a ≡ ends (outcome.Opened file (length content) (sha1 content)) rests_on bytes) }
-    ensures rest { OnOk result (state_of state.new ≡ record (state_of state.old) { opened = with_local state.old.opened.entries file (record { version = version; bytes = content }); cache = with_content state.old.cache file version content }) }
+    ensures rest { OnOk result (state_of state.new
+        ≡ record (state_of state.old) {
+          opened = with_local state.old.opened.entries file
+              (record { version = version; bytes = content });
+          cache = with_content state.old.cache file version content;
+        }) }
     ensures err { OnErr result (state_of state.new ≡ state_of state.old) }
     ensures waiting { state.new.waiting ≡ state.old.waiting }
     ensures index { state.new.index ≡ state.old.index }
@@ -73,7 +78,7 @@ pub fn keep_open(
 {
     let kept = content.share()?;
     let step = put_open(alloc, state, file, version, content, rests_on, bytes)?;
-    state.cache.keep_cut(file, version, kept);
+    state.keep(file, version, kept);
     Ok(step)
 }
 
@@ -102,7 +107,7 @@ pub fn use_kept(
 }
 
 /// A content that is fresh is opened by a command. An `Err` changes nothing.
-#[tactic(auto, using(client_state::proofs::lemmas::Pending::held_of, client_state::proofs::lemmas::Pending::sound_kept))]
+#[tactic(auto, using(crate::proofs::Keeping::by_open_fresh))]
 pub fn open_fresh(
     alloc: Global,
     state: &mut ClientState,
@@ -141,7 +146,7 @@ pub fn told_leased(
     ensures sound { OnOk result (IsSound state.new) }
     ensures held { OnErr result (IsHeld state.new) }
 {
-    match caching::content_in(&state.cache, file, version)? {
+    match caching::content_in(&*state, file, version)? {
         Some(bytes) => use_kept(alloc, state, file, xid, version, bytes, xid),
         None => opening::retry(alloc, state, file, 0, xid, 0),
     }

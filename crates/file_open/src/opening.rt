@@ -7,7 +7,8 @@ ghost use Rattle.file_open.specs.Opening.{read_at, fault_in, with_hashes};
 ghost use Rattle.transfer_rules.specs.Limits.{tries_most};
 ghost use Rattle.file_open.specs.Looking.{with_file, listed_if, listed_by, taken_if, taken_by, entering_by};
 ghost use Rattle.file_open.specs.Shape.{broken_of};
-ghost use Rattle.file_open.specs.Fetching.{opens, opens_kept, finds_kept, asks_file, MayMissOpen, MayMissKept, Comes, tries_anew, opened_with, changes, reads_if, reads_on, lists_on, told_version, told_bytes, told_piece};
+ghost use Rattle.file_open.specs.Fetching.{opens, opens_kept, finds_kept, asks_file, MayMissOpen, MayMissKept, Comes, tries_anew, opened_with, changes, reads_if, reads_on, lists_on, told_version};
+ghost use Rattle.file_open.specs.Fetching.{told_bytes, told_piece};
 ghost use Rattle.client_state.specs.Ending.{forgets, may_ask};
 ghost use Rattle.client_state.specs.View.{state_of, whole_of, later_left, IsListing, IsReading, IsHeld, IsSound, IsThere, HasXids};
 ghost use Rattle.client_state.specs.declared.task.Stage.TheVariants as stage;
@@ -15,6 +16,7 @@ ghost use Rattle.client_state.specs.declared.task.Stage.TheVariants as stage;
 use crate::calls::Reads;
 use crate::{caching, calls, faults, fetch, kept, messages, shape};
 use chunk_cut::chunk::Chunk;
+use chunk_slots::Slots;
 use client_state::parts;
 use client_state::state::ClientState;
 use client_state::step::{BadPeer, ClientStep, Outcome};
@@ -23,6 +25,7 @@ use cut_bytes::CutBytes;
 use hash_calls::call::Hashes;
 use nfs3_calls::call::Piece;
 use std::alloc::{AllocError, Global};
+use std::mem;
 use transfer_rules::chunks::chunk_at;
 use transfer_rules::{bounds, pieces};
 use xdr_codec::handle::Handle;
@@ -37,7 +40,7 @@ pub fn open(alloc: Global, state: &mut ClientState, file: u64) -> Result<ClientS
     ensures sure { OnErr result (MayMissOpen (state_of state.old) file state.old.task) }
     ensures sound { IsSound state.new }
 {
-    if state.task.is_some() {
+    if state.is_busy() {
         return Ok(parts::ends(alloc, Outcome::Busy, 0, 0));
     }
     if state.is_open(file) {
@@ -57,7 +60,7 @@ fn open_kept(alloc: Global, state: &mut ClientState, file: u64) -> Result<Client
     ensures sure { OnErr result (MayMissKept (state_of state.old) (fresh_content state.old.cache file state.old.clock)) }
     ensures sound { IsSound state.new }
 {
-    match caching::fresh(&state.cache, file, state.clock) {
+    match caching::fresh(&*state, file) {
         Some((version, bytes)) => {
             let bytes = bytes.share()?;
             kept::open_fresh(alloc, state, file, version, bytes)
@@ -67,7 +70,7 @@ fn open_kept(alloc: Global, state: &mut ClientState, file: u64) -> Result<Client
 }
 
 /// A file is asked for, where a connection is joined. An `Err` changes nothing.
-#[tactic(auto, using(client_state::proofs::lemmas::Pending::held_of, client_state::proofs::lemmas::Pending::sound_again))]
+#[tactic(auto, using(crate::proofs::Keeping::by_ask_linked))]
 fn ask_linked(alloc: Global, state: &mut ClientState, file: u64) -> Result<ClientStep, AllocError>
     requires sound { IsSound state.old }
     requires idle { state.old.task ≡ None }
@@ -99,7 +102,7 @@ pub fn open_found(
     ensures sound { OnOk result (IsSound state.new) }
     ensures held { OnErr result (IsHeld state.new) }
 {
-    match caching::fresh(&state.cache, file, state.clock) {
+    match caching::fresh(&*state, file) {
         Some((version, bytes)) => {
             let bytes = bytes.share()?;
             kept::use_kept(alloc, state, file, xid, version, bytes, 0)
@@ -119,10 +122,10 @@ fn ask_file(alloc: Global, state: &mut ClientState, file: u64) -> Result<ClientS
     ensures sound { OnOk result (IsSound state.new) }
     ensures held { OnErr result (IsHeld state.new) }
 {
-    let lbfs = state.waiting.lbfs;
-    let xid = state.next_xid;
+    let lbfs = state.lbfs();
+    let xid = state.next_xid();
     let handle = Handle::of_file(alloc, file)?;
-    if caching::is_kept(&state.cache, file) {
+    if caching::is_kept(&*state, file) {
         state.wait_there(alloc, file, Stage::Asking(xid), xid + 1)?;
         let call = messages::lease_call(lbfs, xid, handle);
         return Ok(parts::sends_one(alloc, call, 0));
@@ -133,31 +136,43 @@ fn ask_file(alloc: Global, state: &mut ClientState, file: u64) -> Result<ClientS
 }
 
 /// The file is whole and open, its content is kept, and its chunks' places enter the index, but
-/// those for which memory runs out; chunks from a place on were looked up. An `Err` changes
-/// nothing.
+/// those for which memory runs out; chunks from a place on were looked up. The fetch's bytes are taken out of it.
+/// An `Err` changes nothing.
 fn opened_with(
     alloc: Global,
     state: &mut ClientState,
     file: u64,
-    fetch: &Fetch,
+    fetch: &mut Fetch,
     from: usize,
     xid: u32,
     bytes: u64,
 ) -> Result<ClientStep, AllocError>
     requires held { IsHeld state.old }
     requires there { IsThere state.old.cache file }
-    requires within { IsReading fetch.now }
-    requires from { from ≤ fetch.now.asked }
-    ensures ok { IfOk result (λ a. Comes state.old.index (Some (record { looked = take (fetch.now.asked - from) (drop from fetch.now.chunks); file = file; chunks = fetch.now.chunks })) (opened_with (record (state_of state.old) { index = found_all state.old.index (take (fetch.now.asked - from) (drop from fetch.now.chunks)) }) state.old.waiting.calls file xid fetch.now bytes) (state_of state.new) a) }
+    requires within { IsReading fetch.old }
+    requires from { from ≤ fetch.old.asked }
+    ensures ok { IfOk result (λ a. Comes state.old.index
+        (Some (record {
+          looked = take (fetch.old.asked - from) (drop from fetch.old.chunks);
+          file = file;
+          chunks = fetch.old.chunks;
+        }))
+        (opened_with (record (state_of state.old) {
+          index = found_all state.old.index
+              (take (fetch.old.asked - from)
+              (drop from fetch.old.chunks));
+        }) state.old.waiting.calls file xid fetch.old bytes)
+        (state_of state.new) a) }
     ensures err { OnErr result (whole_of state.new ≡ whole_of state.old) }
     ensures sound { OnOk result (IsSound state.new) }
     ensures held { OnErr result (IsHeld state.new) }
 {
-    let all = fetch::slots_bytes(alloc, fetch.slots.as_slice(), fetch.size)?;
+    let slots = mem::replace(&mut fetch.slots, Slots::none(alloc));
+    let all = fetch::slots_bytes(alloc, slots)?;
     let content = CutBytes::whole(all).hashed();
     let version = fetch.version;
     let mut step = kept::keep_open(alloc, state, file, version, content, fetch.first, bytes)?;
-    let missed = caching::enter_fetched(&mut state.index, file, fetch, from);
+    let missed = caching::enter_fetched(state, file, &*fetch, from);
     state.forget(alloc, xid);
     step.missed = missed;
     Ok(step)
@@ -182,8 +197,8 @@ pub fn retry(
     ensures sound { OnOk result (IsSound state.new) }
     ensures held { OnErr result (IsHeld state.new) }
 {
-    let lbfs = state.waiting.lbfs;
-    let asked = state.next_xid;
+    let lbfs = state.lbfs();
+    let asked = state.next_xid();
     let handle = Handle::of_file(alloc, file)?;
     state.wait_anew(alloc, file, tries + 1, xid)?;
     let call = messages::hash_call(lbfs, asked, handle, 0);
@@ -240,7 +255,13 @@ fn wait_reads(
     requires rises { state.old.next_xid ≤ reads.next_xid }
     requires from { from ≤ reads.fetch.asked }
     requires count { count ≡ length reads.send }
-    ensures ok { IfOk result (λ a. reads_if (record (state_of state.old) { index = found_all state.old.index (take (reads.fetch.asked - from) (drop from reads.fetch.chunks)) }) state.old.waiting.calls file 0 reads bytes false ≡ (state_of state.new, a)) }
+    ensures ok { IfOk result (λ a. reads_if
+        (record (state_of state.old) {
+          index = found_all state.old.index
+              (take (reads.fetch.asked - from)
+              (drop from reads.fetch.chunks));
+        }) state.old.waiting.calls file 0 reads bytes false
+        ≡ (state_of state.new, a)) }
     ensures done { IfOk result (λ a. a.missed ≡ false) }
     ensures err { OnErr result (whole_of state.new ≡ whole_of state.old) }
     ensures sound { OnOk result (IsSound state.new) }
@@ -252,7 +273,7 @@ fn wait_reads(
         send,
     } = reads;
     let (calls, own) = state.list_reads(alloc, fetch.under.as_slice())?;
-    caching::find_asked(&mut state.index, &fetch, from);
+    caching::find_asked(state, &fetch, from);
     state.set_waiting(calls, own, file, Stage::Reading(fetch), next_xid);
     Ok(calls::sends_reads(send, count, bytes))
 }
@@ -271,23 +292,19 @@ fn read_on(
     requires there { IsThere state.old.cache file }
     requires within { IsReading fetch }
     requires xids { HasXids state.old.next_xid (stage.Reading fetch) }
-    ensures ok { IfOk result (λ a. Comes state.old.index (entering_by (state_of state.old) (Some (file, fetch))) (reads_on (state_of state.old) state.old.waiting.calls file xid fetch bytes) (state_of state.new) a) }
+    ensures ok { IfOk result (λ a. Comes state.old.index
+        (entering_by (state_of state.old) (Some (file, fetch)))
+        (reads_on (state_of state.old) state.old.waiting.calls file xid fetch bytes)
+        (state_of state.new) a) }
     ensures err { OnErr result (whole_of state.new ≡ whole_of state.old) }
     ensures sound { OnOk result (IsSound state.new) }
     ensures held { OnErr result (IsHeld state.new) }
 {
     let from = fetch.asked;
     let under = fetch.under.len();
-    let reads = calls::read_all(
-        alloc,
-        &state.cache,
-        &state.index,
-        file,
-        fetch,
-        state.next_xid,
-    )?;
+    let mut reads = calls::read_all(alloc, &*state, file, fetch)?;
     if calls::is_here(&reads.fetch) {
-        let done = opened_with(alloc, state, file, &reads.fetch, from, xid, bytes);
+        let done = opened_with(alloc, state, file, &mut reads.fetch, from, xid, bytes);
         calls::let_go(reads);
         done
     } else {
@@ -313,8 +330,8 @@ fn list_on(
     ensures sound { OnOk result (IsSound state.new) }
     ensures held { OnErr result (IsHeld state.new) }
 {
-    let lbfs = state.waiting.lbfs;
-    let xid = state.next_xid;
+    let lbfs = state.lbfs();
+    let xid = state.next_xid();
     let offset = shape::end_of(fetch.chunks.as_slice());
     let handle = Handle::of_file(alloc, file)?;
     state.wait(alloc, file, Stage::Listing { xid, fetch }, xid + 1)?;
@@ -338,7 +355,11 @@ fn add_piece(
     requires within { IsListing fetch }
     requires can { broken_of fetch hashes.now ≡ None }
     requires xids { HasXids state.old.next_xid (stage.Listing 0 fetch) }
-    ensures ok { IfOk result (λ a. Comes state.old.index (entering_by (state_of state.old) (with_file file (listed_if fetch hashes.now true None hashes.now.eof))) (lists_on (state_of state.old) state.old.waiting.calls file xid (with_hashes fetch hashes.now) hashes.now.eof) (state_of state.new) a) }
+    ensures ok { IfOk result (λ a. Comes state.old.index
+        (entering_by (state_of state.old)
+        (with_file file (listed_if fetch hashes.now true None hashes.now.eof)))
+        (lists_on (state_of state.old) state.old.waiting.calls file xid
+        (with_hashes fetch hashes.now) hashes.now.eof) (state_of state.new) a) }
     ensures err { OnErr result (whole_of state.new ≡ whole_of state.old) }
     ensures sound { OnOk result (IsSound state.new) }
     ensures held { OnErr result (IsHeld state.new) }
@@ -366,7 +387,10 @@ pub fn told_hashes(
     requires there { IsThere state.old.cache file }
     requires within { IsListing fetch }
     requires xids { HasXids state.old.next_xid (stage.Listing 0 fetch) }
-    ensures ok { IfOk result (λ a. Comes state.old.index (entering_by (state_of state.old) (with_file file (listed_by fetch hashes.now))) (told_version (state_of state.old) state.old.waiting.calls file xid fetch hashes.now (hashes.now.version == fetch.version)) (state_of state.new) a) }
+    ensures ok { IfOk result (λ a. Comes state.old.index
+        (entering_by (state_of state.old) (with_file file (listed_by fetch hashes.now)))
+        (told_version (state_of state.old) state.old.waiting.calls file xid fetch hashes.now
+        (hashes.now.version == fetch.version)) (state_of state.new) a) }
     ensures err { OnErr result (whole_of state.new ≡ whole_of state.old) }
     ensures sound { OnOk result (IsSound state.new) }
     ensures held { OnErr result (IsHeld state.new) }
@@ -399,7 +423,13 @@ fn told_bytes(
     requires within { IsReading fetch }
     requires xids { HasXids state.old.next_xid (stage.Reading fetch) }
     requires chunk { slice_get fetch.chunks call.index ≡ Some chunk.now }
-    ensures ok { IfOk result (λ a. Comes state.old.index (entering_by (state_of state.old) (with_file file (taken_if fetch call piece (fault_in chunk.now piece.bytes (length piece.bytes == chunk.now.len))))) (told_bytes (state_of state.old) state.old.waiting.calls file xid fetch call piece (fault_in chunk.now piece.bytes (length piece.bytes == chunk.now.len))) (state_of state.new) a) }
+    ensures ok { IfOk result (λ a. Comes state.old.index
+        (entering_by (state_of state.old)
+        (with_file file (taken_if fetch call piece
+        (fault_in chunk.now piece.bytes (length piece.bytes == chunk.now.len)))))
+        (told_bytes (state_of state.old) state.old.waiting.calls file xid fetch call piece
+        (fault_in chunk.now piece.bytes (length piece.bytes == chunk.now.len)))
+        (state_of state.new) a) }
     ensures err { OnErr result (whole_of state.new ≡ whole_of state.old) }
     ensures sound { OnOk result (IsSound state.new) }
     ensures held { OnErr result (IsHeld state.new) }
@@ -439,7 +469,11 @@ pub fn told_piece(
     requires there { IsThere state.old.cache file }
     requires within { IsReading fetch }
     requires xids { HasXids state.old.next_xid (stage.Reading fetch) }
-    ensures ok { IfOk result (λ a. Comes state.old.index (entering_by (state_of state.old) (with_file file (taken_by fetch piece (read_at fetch.under xid)))) (told_piece (state_of state.old) state.old.waiting.calls file xid fetch piece (read_at fetch.under xid)) (state_of state.new) a) }
+    ensures ok { IfOk result (λ a. Comes state.old.index
+        (entering_by (state_of state.old)
+        (with_file file (taken_by fetch piece (read_at fetch.under xid))))
+        (told_piece (state_of state.old) state.old.waiting.calls file xid fetch piece
+        (read_at fetch.under xid)) (state_of state.new) a) }
     ensures err { OnErr result (whole_of state.new ≡ whole_of state.old) }
     ensures sound { OnOk result (IsSound state.new) }
     ensures held { OnErr result (IsHeld state.new) }

@@ -28,7 +28,7 @@ pub fn rewrite(alloc: Global, state: &mut ClientState, file: u64) -> Result<Clie
     ensures sure { OnErr result (MayMissOpen (state_of state.old) file state.old.task) }
     ensures sound { IsSound state.new }
 {
-    if state.task.is_some() {
+    if state.is_busy() {
         return Ok(parts::ends(alloc, Outcome::Busy, 0, 0));
     }
     if state.is_open(file) {
@@ -48,14 +48,14 @@ fn renew_kept(alloc: Global, state: &mut ClientState, file: u64) -> Result<Clien
     ensures sure { OnErr result (MayMissKept (state_of state.old) (fresh_content state.old.cache file state.old.clock)) }
     ensures sound { IsSound state.new }
 {
-    match caching::fresh(&state.cache, file, state.clock) {
+    match caching::fresh(&*state, file) {
         Some((version, _bytes)) => empty_fresh(alloc, state, file, version),
         None => ask_linked(alloc, state, file),
     }
 }
 
 /// The file's version is asked for, where a connection is joined. An `Err` changes nothing.
-#[tactic(auto, using(client_state::proofs::lemmas::Pending::held_of, client_state::proofs::lemmas::Pending::sound_again))]
+#[tactic(auto, using(crate::proofs::Keeping::by_ask_linked))]
 fn ask_linked(alloc: Global, state: &mut ClientState, file: u64) -> Result<ClientStep, AllocError>
     requires sound { IsSound state.old }
     requires idle { state.old.task ≡ None }
@@ -87,7 +87,7 @@ pub fn renew_found(
     ensures sound { OnOk result (IsSound state.new) }
     ensures held { OnErr result (IsHeld state.new) }
 {
-    match caching::fresh(&state.cache, file, state.clock) {
+    match caching::fresh(&*state, file) {
         Some((version, _bytes)) => open_empty(alloc, state, file, xid, version, 0),
         None => ask_anew(alloc, state, file),
     }
@@ -123,8 +123,8 @@ fn ask_anew(alloc: Global, state: &mut ClientState, file: u64) -> Result<ClientS
     ensures sound { OnOk result (IsSound state.new) }
     ensures held { OnErr result (IsHeld state.new) }
 {
-    let lbfs = state.waiting.lbfs;
-    let xid = state.next_xid;
+    let lbfs = state.lbfs();
+    let xid = state.next_xid();
     let handle = Handle::of_file(alloc, file)?;
     state.wait_there(alloc, file, Stage::Rewriting(xid), xid + 1)?;
     let call = messages::lease_call(lbfs, xid, handle);

@@ -14,6 +14,7 @@ use Rattle.client_state.specs.declared.task.Local.{Local}
 use Rattle.client_state.specs.declared.task.Task.{Task}
 use Rattle.open_close.specs.Putting.{puts, PutTakes}
 use Rattle.open_close.specs.Step.{edits, writes, WriteTakes}
+use Rattle.command_text.proofs.lemmas.Contents.{content_size}
 
 pub written_whole : (content more : List ℕ) → 0 < length more → length content ≤ length more → written content 0 more ≡ more
 written_whole content [] some le = let no : ⊥ = omega (arith, some) in absurd no
@@ -51,3 +52,6 @@ unfolding takes_with
 may_miss_so (Some t) local bytes = refl
 may_miss_so None None bytes = refl
 may_miss_so None (Some l) bytes = ap (λ n. takes_with l n) (one_length bytes)
+
+-- what `written` goes by
+pub ruleset by_written = (content_size, written_whole)

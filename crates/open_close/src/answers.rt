@@ -86,7 +86,11 @@ pub fn took_first(
     requires there { IsThere state.old.cache file }
     requires tries { tries ≤ tries_most }
     requires xids { HasXids state.old.next_xid (stage.Hashing tries 0) }
-    ensures ok { IfOk result (λ a. Comes state.old.index (entering_by (state_of state.old) (with_file file (reading_by (stage.Hashing tries 0) xid body.now))) (takes (state_of state.old) state.old.waiting.calls file (stage.Hashing tries 0) xid body.now) (state_of state.new) a) }
+    ensures ok { IfOk result (λ a. Comes state.old.index
+        (entering_by (state_of state.old)
+        (with_file file (reading_by (stage.Hashing tries 0) xid body.now)))
+        (takes (state_of state.old) state.old.waiting.calls file
+        (stage.Hashing tries 0) xid body.now) (state_of state.new) a) }
     ensures err { OnErr result (whole_of state.new ≡ whole_of state.old) }
     ensures sound { OnOk result (IsSound state.new) }
     ensures held { OnErr result (IsHeld state.new) }
@@ -116,7 +120,11 @@ pub fn took_piece(
     requires there { IsThere state.old.cache file }
     requires within { IsListing fetch }
     requires xids { HasXids state.old.next_xid (stage.Listing 0 fetch) }
-    ensures ok { IfOk result (λ a. Comes state.old.index (entering_by (state_of state.old) (with_file file (reading_by (stage.Listing 0 fetch) xid body.now))) (takes (state_of state.old) state.old.waiting.calls file (stage.Listing 0 fetch) xid body.now) (state_of state.new) a) }
+    ensures ok { IfOk result (λ a. Comes state.old.index
+        (entering_by (state_of state.old)
+        (with_file file (reading_by (stage.Listing 0 fetch) xid body.now)))
+        (takes (state_of state.old) state.old.waiting.calls file
+        (stage.Listing 0 fetch) xid body.now) (state_of state.new) a) }
     ensures err { OnErr result (whole_of state.new ≡ whole_of state.old) }
     ensures sound { OnOk result (IsSound state.new) }
     ensures held { OnErr result (IsHeld state.new) }
@@ -143,7 +151,11 @@ pub fn took_bytes(
     requires there { IsThere state.old.cache file }
     requires within { IsReading fetch }
     requires xids { HasXids state.old.next_xid (stage.Reading fetch) }
-    ensures ok { IfOk result (λ a. Comes state.old.index (entering_by (state_of state.old) (with_file file (reading_by (stage.Reading fetch) xid body.old))) (takes (state_of state.old) state.old.waiting.calls file (stage.Reading fetch) xid body.old) (state_of state.new) a) }
+    ensures ok { IfOk result (λ a. Comes state.old.index
+        (entering_by (state_of state.old)
+        (with_file file (reading_by (stage.Reading fetch) xid body.old)))
+        (takes (state_of state.old) state.old.waiting.calls file
+        (stage.Reading fetch) xid body.old) (state_of state.new) a) }
     ensures err { OnErr result (whole_of state.new ≡ whole_of state.old) }
     ensures sound { OnOk result (IsSound state.new) }
     ensures held { OnErr result (IsHeld state.new) }

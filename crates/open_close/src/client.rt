@@ -92,7 +92,7 @@ impl Client {
         ensures silent { result.missed ≡ true → result ≡ misses (Some by_memory) }
         ensures sure { result.missed ≡ true → MayMissCommand (at self.old now) command }
     {
-        let before = self.state.clock;
+        let before = self.state.clock();
         self.state.set_clock(now);
         match taking::command(alloc, &mut self.state, command) {
             Ok(step) => step,
@@ -111,7 +111,7 @@ impl Client {
         ensures silent { result.missed ≡ true → result ≡ misses (Some by_memory) }
         ensures sure { result.missed ≡ true → MayMissCommand (at self.old now) (put_of file content) }
     {
-        let before = self.state.clock;
+        let before = self.state.clock();
         self.state.set_clock(now);
         match taking::put(alloc, &mut self.state, file, content) {
             Ok(step) => step,
@@ -136,7 +136,7 @@ impl Client {
         ensures exact { result.missed ≡ false → got_step self.old message now ≡ (self.new, result) }
         ensures missed { result.missed ≡ true → Misses self.old message now self.new result }
     {
-        let before = self.state.clock;
+        let before = self.state.clock();
         self.state.set_clock(now);
         match taking::got(alloc, &mut self.state, message) {
             Ok(step) => step,
@@ -217,7 +217,7 @@ impl Client {
     pub fn fresh(&self, file: u64, now: u64) -> Option<&[u8]>
         ensures { option_copied result ≡ option_map (λ c. c.bytes) (fresh_content self.now.cache file now) }
     {
-        match caching::fresh(&self.state.cache, file, now) {
+        match caching::fresh_at(&self.state, file, now) {
             Some((_version, bytes)) => Some(bytes.as_slice()),
             None => None,
         }
@@ -227,14 +227,14 @@ impl Client {
     pub fn cache(&self) -> &Cache
         ensures { result.now ≡ self.now.cache }
     {
-        &self.state.cache
+        self.state.kept()
     }
 
     /// What may come: answers to the calls that wait, those of ended operations and attempts too.
     pub fn waiting(&self) -> &Waiting
         ensures { result.now ≡ waiting_of self.now }
     {
-        &self.state.waiting
+        self.state.waiting()
     }
 
     /// A connection is joined, and its first xid is 1, as is the number of its first temporary file.

@@ -41,7 +41,7 @@ fn bytes_of(alloc: Global, content: Content) -> Result<Bytes, AllocError>
 
 /// An open file's content with some bytes written at a place, within the limit of a file. Bytes that replace
 /// all of it aren't copied either.
-#[tactic(auto, using(command_text::proofs::lemmas::Contents::content_size, crate::proofs::Writes::written_whole))]
+#[tactic(auto, using(crate::proofs::Writes::by_written))]
 fn written(
     alloc: Global,
     local: &Local,
@@ -111,7 +111,7 @@ pub fn write(
     ensures sure { OnErr result (MayMissOn state.old.task (local_at state.old.opened.entries file) (WriteTakes offset content)) }
     ensures sound { IsSound state.new }
 {
-    if state.task.is_some() {
+    if state.is_busy() {
         return Ok(parts::ends(alloc, Outcome::Busy, 0, 0));
     }
     let Some(local) = state.local(file) else {
@@ -145,7 +145,7 @@ pub fn put(
     ensures sure { OnErr result (MayMissOn state.old.task (local_at state.old.opened.entries file) (PutTakes content)) }
     ensures sound { IsSound state.new }
 {
-    if state.task.is_some() {
+    if state.is_busy() {
         return Ok(parts::ends(alloc, Outcome::Busy, 0, 0));
     }
     let Some(local) = state.local(file) else {
@@ -179,7 +179,7 @@ pub fn trunc(
     ensures sure { OnErr result (MayMissOn state.old.task (local_at state.old.opened.entries file) (λ l. size ≤ local_most)) }
     ensures sound { IsSound state.new }
 {
-    if state.task.is_some() {
+    if state.is_busy() {
         return Ok(parts::ends(alloc, Outcome::Busy, 0, 0));
     }
     let Some(local) = state.local(file) else {
@@ -206,7 +206,7 @@ pub fn read_part(
     ensures done { result.missed ≡ false }
     ensures sound { IsSound state.new }
 {
-    if state.task.is_some() {
+    if state.is_busy() {
         return parts::ends(alloc, Outcome::Busy, 0, 0);
     }
     let Some(local) = state.local(file) else {
@@ -227,7 +227,7 @@ pub fn abandon(alloc: Global, state: &mut ClientState, file: u64) -> ClientStep
     ensures done { result.missed ≡ false }
     ensures sound { IsSound state.new }
 {
-    if state.task.is_some() {
+    if state.is_busy() {
         return parts::ends(alloc, Outcome::Busy, 0, 0);
     }
     if !state.is_open(file) {

@@ -99,7 +99,11 @@ fn takes(
     requires xids { HasXids state.old.next_xid task.stage }
     requires within { IsWithin task.stage }
     requires there { StageIsThere state.old.cache task.file task.stage }
-    ensures ok { IfOk result (λ a. Comes state.old.index (entering_by (state_of state.old) (with_file task.file (reading_by task.stage xid body.old))) (takes (state_of state.old) state.old.waiting.calls task.file task.stage xid body.old) (state_of state.new) a) }
+    ensures ok { IfOk result (λ a. Comes state.old.index
+        (entering_by (state_of state.old)
+        (with_file task.file (reading_by task.stage xid body.old)))
+        (takes (state_of state.old) state.old.waiting.calls task.file task.stage xid body.old)
+        (state_of state.new) a) }
     ensures err { OnErr result (whole_of state.new ≡ whole_of state.old) }
     ensures calm { OnErr result (InCommit task.stage → ⊥) }
     ensures sound { OnOk result (IsSound state.new) }
@@ -148,7 +152,11 @@ fn took(
     requires xids { HasXids state.old.next_xid task.stage }
     requires within { IsWithin task.stage }
     requires there { StageIsThere state.old.cache task.file task.stage }
-    ensures ok { IfOk result (λ a. Comes state.old.index (entering_by (state_of state.old) (with_file task.file (reading_by task.stage xid body.old))) (took (state_of state.old) state.old.waiting.calls task.file task.stage xid body.old) (state_of state.new) a) }
+    ensures ok { IfOk result (λ a. Comes state.old.index
+        (entering_by (state_of state.old)
+        (with_file task.file (reading_by task.stage xid body.old)))
+        (took (state_of state.old) state.old.waiting.calls task.file task.stage xid body.old)
+        (state_of state.new) a) }
     ensures err { OnErr result (whole_of state.new ≡ whole_of state.old) }
     ensures calm { OnErr result (InCommit task.stage → ⊥) }
     ensures sound { OnOk result (IsSound state.new) }
@@ -179,7 +187,11 @@ fn take_own(
     requires xids { HasXids state.old.next_xid task.stage }
     requires within { IsWithin task.stage }
     requires there { StageIsThere state.old.cache task.file task.stage }
-    ensures ok { IfOk result (λ a. Comes state.old.index (entering_by (state_of state.old) (with_file task.file (reading_by task.stage xid body))) (took (state_of state.old) state.old.waiting.calls task.file task.stage xid body) (state_of state.new) a) }
+    ensures ok { IfOk result (λ a. Comes state.old.index
+        (entering_by (state_of state.old)
+        (with_file task.file (reading_by task.stage xid body)))
+        (took (state_of state.old) state.old.waiting.calls task.file task.stage xid body)
+        (state_of state.new) a) }
     ensures err { OnErr result (state_of state.new ≡ forgets (state_of state.old) state.old.waiting.calls xid) }
     ensures calm { OnErr result (InCommit task.stage → ⊥) }
     ensures sound { IsSound state.new }
@@ -204,7 +216,10 @@ fn answered(
     body: Body,
 ) -> Result<ClientStep, AllocError>
     requires { IsSound state.old }
-    ensures ok { IfOk result (λ a. Comes state.old.index (entering (state_of state.old) (Ok (message.Answer xid body))) (got_message (state_of state.old) state.old.task (message.Answer xid body)) (state_of state.new) a) }
+    ensures ok { IfOk result (λ a. Comes state.old.index
+        (entering (state_of state.old) (Ok (message.Answer xid body)))
+        (got_message (state_of state.old) state.old.task (message.Answer xid body))
+        (state_of state.new) a) }
     ensures err { OnErr result (state_of state.new ≡ missed_at (state_of state.old) (Ok (message.Answer xid body))) }
     ensures sure { OnErr result (MayMiss (state_of state.old) (Ok (message.Answer xid body))) }
     ensures sound { IsSound state.new }
@@ -213,7 +228,7 @@ fn answered(
         drop(body);
         return Ok(state.take_other(alloc, xid));
     }
-    match state.task.take() {
+    match state.take_task() {
         Some(task) => take_own(alloc, state, task, xid, body),
         None => {
             drop(body);
@@ -232,12 +247,10 @@ fn was_refused(alloc: Global, state: &mut ClientState, xid: u32, refusal: RpcRef
     if !waiting::has_call(state.own_calls(), xid) {
         return state.take_other(alloc, xid);
     }
-    match state.task.take() {
-        Some(task) => {
-            drop(task);
-            state.denied(alloc, xid, refusal)
-        }
-        None => state.take_other(alloc, xid),
+    if state.is_busy() {
+        state.denied(alloc, xid, refusal)
+    } else {
+        state.take_other(alloc, xid)
     }
 }
 
@@ -248,7 +261,7 @@ fn got_fault(alloc: Global, state: &mut ClientState, fault: WireFault) -> Client
     ensures done { result.missed ≡ false }
     ensures sound { IsSound state.new }
 {
-    if state.task.is_some() {
+    if state.is_busy() {
         state.bad_peer(alloc, fault_of(fault), 0)
     } else {
         state.cut_off(alloc)

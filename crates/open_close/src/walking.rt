@@ -30,7 +30,7 @@ fn ask_next(alloc: Global, state: &mut ClientState, walk: Walk) -> Result<Client
     ensures sound { OnOk result (IsSound state.new) }
     ensures held { OnErr result (IsHeld state.new) }
 {
-    let xid = state.next_xid;
+    let xid = state.next_xid();
     let call = walk.next_call(alloc)?;
     state.wait(alloc, 0, Stage::Walking { xid, walk }, xid + 1)?;
     Ok(parts::sends_one(alloc, Message::Call(xid, Body::Nfs(call)), 0))
@@ -50,7 +50,7 @@ pub fn walk(
     ensures sure { OnErr result (MayMissWalk (state_of state.old) command state.old.task) }
     ensures sound { IsSound state.new }
 {
-    if state.task.is_some() {
+    if state.is_busy() {
         drop(command);
         return Ok(parts::ends(alloc, Outcome::Busy, 0, 0));
     }

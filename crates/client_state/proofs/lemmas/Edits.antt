@@ -44,3 +44,6 @@ written_length content offset more some =
     ap length (written_some content offset more some)
     ∙ four_parts (take offset content) (replicate {A = ℕ} (offset - length content) 0) more (drop (offset + length more) content)
     ∙ sum_of_parts _ _ _ offset (length content) (length more) (length-take offset content) (length-replicate {A = ℕ} (offset - length content) 0) (length-drop (offset + length more) content)
+
+-- what `written` goes by
+pub ruleset by_written = (written_some, written_length)

@@ -14,6 +14,7 @@ use Rattle.std.proofs.lemmas.Map.Keys.{sorted_head, sorted_tail}
 use Rattle.std.proofs.lemmas.Map.Views.{tells_apart}
 use Rattle.client_state.specs.State.{local_at, with_local, without_local, IsRising}
 use Rattle.client_state.specs.declared.task.Local.{Local}
+use Rattle.client_state.proofs.lemmas.Bounds.{locals_without}
 
 -- ---- an id against an id
 
@@ -96,3 +97,6 @@ remove_is_without (e ∷ es) k s = by (is_at (nat_cmp k) e.0) refl (remove_is_wi
         let same : k ≡ e.0 = tells_apart exact_unsigned k e.0 p in
         sym (all_apart es k (subst (λ j. AllByRecursion (λ y. nat_cmp j y ≡ Less) (keys_of es)) (sym same) (sorted_head nat_cmp e.0 (keys_of es) s)))
     by false p h = ap (λ l. e ∷ l) h
+
+-- what `take_local` goes by
+pub ruleset by_take_local = (locals_without, remove_is_without)

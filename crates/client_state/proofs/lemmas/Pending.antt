@@ -125,3 +125,6 @@ dropped_sound s calls xid h other e =
       within = h.within;
       there = h.there;
     }
+
+-- what `set_waiting` goes by
+pub ruleset by_set_waiting = (drop_front, front_fits)

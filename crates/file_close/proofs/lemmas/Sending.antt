@@ -79,3 +79,6 @@ whole_xids st c next xid h = let a = calls_after_push st.under (record { xid = x
 
 pub whole_within : (st : Upload) (c : UploadCall) (xid : ℕ) → IsStore st → IsStore (with_whole st c xid)
 whole_within st c xid h = record { few = h.few; lens = h.lens; named = h.named }
+
+-- what `send_whole` goes by
+pub ruleset by_send_whole = (whole_xids, whole_within)

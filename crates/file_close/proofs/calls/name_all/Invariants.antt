@@ -6,6 +6,6 @@ use Rattle.file_close.proofs.calls.name_all.Given as goal
 -- the CONDWRITEs that are left lead to the same end
 abbrev pub invariant-loop-i : goal.invariant-loop-i
 invariant-loop-i l = record {
-  same : names_more l.fn.lbfs (l.room - l._i) l.names ≡ names_all l.fn.lbfs l.fn.store l.fn.next_xid;
-  kept : IsSendingNames l.fn.store.named l.fn.next_xid l.names;
+  same : names_more l.state.waiting.lbfs (l.room - l._i) l.names ≡ names_all l.state.waiting.lbfs l.fn.store l.state.next_xid;
+  kept : IsSendingNames l.fn.store.named l.state.next_xid l.names;
 }

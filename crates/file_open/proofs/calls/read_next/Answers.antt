@@ -23,4 +23,4 @@ pub returns : goal.returns
 returns c =
     let r = c.args.reads.now in
     let is : slice_get r.fetch.chunks r.fetch.asked ≡ Some c.in-Some.chunk = ap (λ (cs : List Chunk). slice_get cs r.fetch.asked) (sym c.as_slice.ensures) ∙ sym c.in-Some.ensures in
-    subst (λ (x : Reads). OnOk c.take_chunk.result (c.take_chunk.new.reads ≡ x)) (next_is c.args.cache.now c.args.index.now c.args.file r (slice_get r.fetch.chunks r.fetch.asked) c.in-Some.chunk c.in_ok-kept.kept is c.in_ok-kept.ensures) c.take_chunk.ensures
+    subst (λ (x : Reads). OnOk c.take_chunk.result (c.take_chunk.new.reads ≡ x)) (next_is c.args.state.now.cache c.args.state.now.index c.args.file r (slice_get r.fetch.chunks r.fetch.asked) c.in-Some.chunk c.in_ok-kept.kept is c.in_ok-kept.ensures) c.take_chunk.ensures

@@ -1,6 +1,7 @@
 use Rattle.std.proofs.Common.{◌≡◌, ◌+◌, sym, ap, ◌∙◌, ℕ, List, true, false}
 use Rattle.std.specs.Prelude.{Some, is_some}
 use Rattle.client_cache.specs.Cache.{reserved, content_of}
+use Rattle.xdr_codec.specs.Handle.{handle_bytes}
 use Rattle.hash_calls.specs.declared.message.Lb.TheVariants as lb
 use Rattle.wire.specs.declared.message.Body.TheVariants as body
 use Rattle.wire.specs.declared.message.Message.{Message}
@@ -18,17 +19,21 @@ returns-then-is_kept-clause-ok c =
     let s = state_of c.args.state.now in
     let file = c.args.file in
     let kept : is_some (content_of s.cache file) ≡ true = sym c.is_kept.ensures ∙ c.if-is_kept.true in
-    let begun : State = record s { next_xid = s.next_xid + 1; task = Some (record { file = file; stage = stage.Asking s.next_xid }); cache = reserved s.cache file; sent = s.clock } in
-    let asked : List ℕ → Message = λ h. message.Call s.next_xid (body.Lb (lb.GetLease (record { lbfs = s.lbfs; handle = h }))) in
+    let xid = c.next_xid-xid.result in
+    let begun : ℕ → State = λ x. record s { next_xid = x + 1; task = Some (record { file = file; stage = stage.Asking x }); cache = reserved s.cache file; sent = s.clock } in
+    let asked : ℕ → ℕ → List ℕ → Message = λ l x h. message.Call x (body.Lb (lb.GetLease (record { lbfs = l; handle = h }))) in
     asks_version (record s { cache = reserved s.cache file }) file (content_of s.cache file) kept
-    ∙ sent_one begun (state_of c.wait_there.new.self) c.sends_one.result (lease_call s.lbfs s.next_xid file) c.lease_call-call.result 0 c.in_ok-wait_there.ensures.ok c.sends_one.ensures (c.lease_call-call.ensures ∙ ap asked c.in_ok-handle.ensures)
+    ∙ sent_one (begun s.next_xid) (state_of c.wait_there.new.self) c.sends_one.result (lease_call s.lbfs s.next_xid file) c.lease_call-call.result 0 (c.in_ok-wait_there.ensures.ok ∙ ap begun c.next_xid-xid.ensures) c.sends_one.ensures
+    (c.lease_call-call.ensures ∙ (ap (asked c.lbfs-lbfs.result xid) c.in_ok-handle.ensures ∙ (ap (λ (l : ℕ). asked l xid (handle_bytes file)) c.lbfs-lbfs.ensures ∙ ap (λ (x : ℕ). asked s.lbfs x (handle_bytes file)) c.next_xid-xid.ensures)))
 
 pub returns-clause-ok : goal.returns-clause-ok
 returns-clause-ok c =
     let s = state_of c.args.state.now in
     let file = c.args.file in
     let none : is_some (content_of s.cache file) ≡ false = sym c.is_kept.ensures ∙ c.if-is_kept.false in
-    let begun : State = record s { next_xid = s.next_xid + 1; task = Some (record { file = file; stage = stage.Hashing 1 s.next_xid }); cache = reserved s.cache file; sent = s.clock } in
-    let asked : List ℕ → Message = λ h. message.Call s.next_xid (body.Lb (lb.GetHash (record { lbfs = s.lbfs; handle = h; offset = 0; count = 4294967295 }))) in
+    let xid = c.next_xid-xid.result in
+    let begun : ℕ → State = λ x. record s { next_xid = x + 1; task = Some (record { file = file; stage = stage.Hashing 1 x }); cache = reserved s.cache file; sent = s.clock } in
+    let asked : ℕ → ℕ → List ℕ → Message = λ l x h. message.Call x (body.Lb (lb.GetHash (record { lbfs = l; handle = h; offset = 0; count = 4294967295 }))) in
     asks_hashes (record s { cache = reserved s.cache file }) file (content_of s.cache file) none
-    ∙ sent_one begun (state_of c.wait_there-2.new.self) c.sends_one-2.result (hash_call s.lbfs s.next_xid file 0) c.hash_call-call.result 0 c.in_ok-wait_there-2.ensures.ok c.sends_one-2.ensures (c.hash_call-call.ensures ∙ ap asked c.in_ok-handle.ensures)
+    ∙ sent_one (begun s.next_xid) (state_of c.wait_there-2.new.self) c.sends_one-2.result (hash_call s.lbfs s.next_xid file 0) c.hash_call-call.result 0 (c.in_ok-wait_there-2.ensures.ok ∙ ap begun c.next_xid-xid.ensures) c.sends_one-2.ensures
+    (c.hash_call-call.ensures ∙ (ap (asked c.lbfs-lbfs.result xid) c.in_ok-handle.ensures ∙ (ap (λ (l : ℕ). asked l xid (handle_bytes file)) c.lbfs-lbfs.ensures ∙ ap (λ (x : ℕ). asked s.lbfs x (handle_bytes file)) c.next_xid-xid.ensures)))

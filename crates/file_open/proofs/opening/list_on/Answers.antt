@@ -19,7 +19,13 @@ returns-clause-ok c =
     let s = state_of c.args.state.now in
     let f = c.args.fetch in
     let file = c.args.file in
-    let begun : State = record s { next_xid = s.next_xid + 1; task = Some (record { file = file; stage = stage.Listing s.next_xid f }); sent = s.clock } in
-    let asked : List ℕ → ℕ → Message = λ h o. message.Call s.next_xid (body.Lb (lb.GetHash (record { lbfs = s.lbfs; handle = h; offset = o; count = 4294967295 }))) in
-    sent_one begun (state_of c.mark_sent.new.self) c.sends_one.result (hash_call s.lbfs s.next_xid file (end_of f.chunks)) c.hash_call-call.result 0 (c.mark_sent.ensures.rest ∙ ap (λ (t : State). asks_lease t) c.in_ok-wait.ensures.ok) c.sends_one.ensures
-    (c.hash_call-call.ensures ∙ (ap (λ (h : List ℕ). asked h c.end_of-offset.result) c.in_ok-handle.ensures ∙ ap (asked (handle_bytes file)) (c.end_of-offset.ensures ∙ ap end_of c.as_slice.ensures)))
+    let xid = c.next_xid-xid.result in
+    let lbfs = c.lbfs-lbfs.result in
+    let end : ℕ = end_of f.chunks in
+    let begun : ℕ → State = λ x. record s { next_xid = x + 1; task = Some (record { file = file; stage = stage.Listing x f }); sent = s.clock } in
+    let asked : ℕ → ℕ → List ℕ → ℕ → Message = λ l x h o. message.Call x (body.Lb (lb.GetHash (record { lbfs = l; handle = h; offset = o; count = 4294967295 }))) in
+    sent_one (begun s.next_xid) (state_of c.mark_sent.new.self) c.sends_one.result (hash_call s.lbfs s.next_xid file (end_of f.chunks)) c.hash_call-call.result 0 (c.mark_sent.ensures.rest ∙ (ap (λ (t : State). asks_lease t) c.in_ok-wait.ensures.ok ∙ ap begun c.next_xid-xid.ensures)) c.sends_one.ensures
+    (c.hash_call-call.ensures
+    ∙ (ap (λ (h : List ℕ). asked lbfs xid h c.end_of-offset.result) c.in_ok-handle.ensures
+    ∙ (ap (asked lbfs xid (handle_bytes file)) (c.end_of-offset.ensures ∙ ap end_of c.as_slice.ensures)
+    ∙ (ap (λ (l : ℕ). asked l xid (handle_bytes file) end) c.lbfs-lbfs.ensures ∙ ap (λ (x : ℕ). asked s.lbfs x (handle_bytes file) end) c.next_xid-xid.ensures))))

@@ -12,5 +12,5 @@ use Rattle.file_open.proofs.rewriting.rewrite.Goals as goal
 pub returns-clause-sure : goal.returns-clause-sure
 returns-clause-sure c =
     let s = state_of c.args.state.now in
-    let idle : s.task ≡ None = no_task s.task (sym c.is_some.ensures ∙ c.if-is_some.false) in
+    let idle : s.task ≡ None = no_task s.task (sym c.is_busy.ensures ∙ c.if-is_busy.false) in
     subst (λ (t : Option Task). OnErr c.renew_kept.result (MayMissOpen s c.args.file t)) (sym idle) (on_err_both c.renew_kept.result (is_open s.opened c.args.file ≡ false) (MayMissKept s (fresh_content s.cache c.args.file s.clock)) (sym c.is_open.ensures ∙ c.if-is_open.false) c.renew_kept.ensures.sure)

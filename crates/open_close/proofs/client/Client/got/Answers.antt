@@ -1,4 +1,4 @@
-use Rattle.std.proofs.Common.{ap, subst, ◌∙◌}
+use Rattle.std.proofs.Common.{ap, subst, ◌∙◌, ℕ}
 use Rattle.client_state.specs.Noting.{at}
 use Rattle.client_state.specs.State.{State}
 use Rattle.client_state.specs.View.{state_of}
@@ -17,4 +17,4 @@ pub returns-in-Err-clause-missed : goal.returns-in-Err-clause-missed
 returns-in-Err-clause-missed c = λ said. missed_so c.args.self.now c.args.message c.args.now (state_of c.got.new.state) (state_of c.set_clock-in-Err.new.self) c.missed.result
     (subst (λ (t : State). MayMiss t c.args.message) (c.set_clock.ensures.rest ∙ ap (λ (t : State). at t c.args.now) c.self.view_is) c.in-Err.ensures.sure)
     (c.in-Err.ensures.err ∙ ap (λ (t : State). missed_at t c.args.message) (c.set_clock.ensures.rest ∙ ap (λ (t : State). at t c.args.now) c.self.view_is))
-    (c.set_clock-in-Err.ensures.rest ∙ ap (λ (t : State). at (state_of c.got.new.state) t.clock) c.self.view_is) c.missed.ensures
+    (c.set_clock-in-Err.ensures.rest ∙ ap (λ (before : ℕ). at (state_of c.got.new.state) before) (c.clock-before.ensures ∙ ap (λ (t : State). t.clock) c.self.view_is)) c.missed.ensures

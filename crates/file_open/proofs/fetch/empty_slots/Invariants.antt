@@ -1,7 +1,0 @@
-use Rattle.std.proofs.Common.{◌≡◌, replicate}
-use Rattle.std.specs.Prelude.{None}
-use Rattle.file_open.proofs.fetch.empty_slots.Given as goal
-
--- so many so far
-abbrev pub invariant-loop-i : goal.invariant-loop-i
-invariant-loop-i l = l.slots.items ≡ replicate l._i None
