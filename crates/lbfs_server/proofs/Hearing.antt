@@ -31,10 +31,6 @@ module _ {V E : Type 0} {g : Ghosts V E} (journal : V → List E) (hears : V →
   pub heard_between : (bytes : List ℕ) (p m n q : Pass V E g) → IsPrefix (seen p) (seen m) → IsHeard journal hears session bytes m n → IsPrefix (seen n) (seen q) → IsHeard journal hears session bytes p q
   heard_between bytes p m n q first heard last = (heard.0, heard.1, turned_between journal (λ found left. hears found session bytes heard.0 heard.1 left) p m n q first heard.2 last)
 
-  heard_then : (records : List (List ℕ)) (p m q : Pass V E g) → AreHeard journal hears session records p m → IsPrefix (seen m) (seen q) → AreHeard journal hears session records p q
-  heard_then [] p m q same last = prefix_trans (seen p) (seen m) (seen q) same last
-  heard_then (bytes ∷ later) p m q all last = (all.0, all.1, heard_then later all.0 m q all.2 last)
-
   heard_more : (records : List (List ℕ)) (bytes : List ℕ) (p m q : Pass V E g) → AreHeard journal hears session records p m → IsHeard journal hears session bytes m q → AreHeard journal hears session (records ++ bytes ∷ []) p q
   heard_more [] bytes p m q same heard = (q, heard_between bytes p m q q same heard (prefix_self (seen q)), prefix_self (seen q))
   heard_more (first ∷ later) bytes p m q all heard = (all.0, all.1, heard_more later bytes all.0 m q all.2 heard)
@@ -73,9 +69,6 @@ module _ {V E : Type 0} {g : Ghosts V E} (journal : V → List E) (hears : V →
       → (end ≡ ends.InputEnd) ⊎ (end ≡ ends.Spoilt) → HearsToEnd journal hears session before after p q
   hears_at_end before between after kept new end p q all ended spoilt (inl is) = let e = ended is in hears_to_end before between after kept new e.0 p q all e.1 e.2 e.4
   hears_at_end before between after kept new end p q all ended spoilt (inr is) = let e = spoilt is in hears_to_end before between after kept new e.0 p q all e.1 e.2 e.3
-
-  pub hears_then : (left left' : Option (List ℕ)) (p m q : Pass V E g) → HearsToEnd journal hears session left left' p m → IsPrefix (seen m) (seen q) → HearsToEnd journal hears session left left' p q
-  hears_then left left' p m q all last = (all.0, all.1, record { bytes = all.2.bytes; records = all.2.records; consumed = all.2.consumed; gave = all.2.gave; heard = heard_then all.2.records p m q all.2.heard last })
 
 no_input_end : ◌≡◌ {A = End} ends.Memory ends.InputEnd → ⊥
 no_input_end e = cc

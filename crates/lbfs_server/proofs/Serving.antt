@@ -82,3 +82,6 @@ none_held told term server spare of = subst (λ s. entries_held s.waiting ≤ sp
 -- an error is the same, whatever else might have been answered
 pub same_error : {A B E : Type 0} → (e x : E) → ◌≡◌ {A = Result A E} (Err e) (Err x) → ◌≡◌ {A = Result B E} (Err e) (Err x)
 same_error e x is = let same : e ≡ x = cc in ap Err same
+
+-- what `opened` goes by
+pub ruleset by_opened = (is_server_of, keeps_tree, is_bad)

@@ -6,8 +6,9 @@ use Rattle.record_ends.specs.Ends.{Kept, nothing_kept}
 use Rattle.turn_post.specs.declared.journaled.Journaled.{Ghosts}
 use Rattle.turn_post.specs.declared.post.Pass.{Pass}
 use Rattle.turn_post.specs.Passes.{seen}
+use Rattle.server_core.specs.declared.event.Event.{Event}
 use Rattle.server_held.specs.declared.held.Went.{Went}
-use Rattle.server_turns.specs.Turned.{IsHeard}
+use Rattle.server_turns.specs.Turned.{IsHeard, IsHung}
 use Rattle.lbfs_server.specs.Ends.{Gave}
 
 module _ {V E : Type 0} {g : Ghosts V E} (journal : V → List E) (hears : V → ℕ → List ℕ → ℕ → Went → V → Type 0) (session : ℕ) where
@@ -27,3 +28,8 @@ module _ {V E : Type 0} {g : Ghosts V E} (journal : V → List E) (hears : V →
   -- the same, and no record is kept that wasn't heard
   abbrev pub HearsToEnd : (left left' : Option (List ℕ)) → (before behind : Pass V E g) → Type 0
   HearsToEnd left left' before behind = (kept : Kept) × (kept.waiting ≡ []) × HearsAll left left' kept before behind
+
+module _ {V E : Type 0} {g : Ghosts V E} (journal : V → List E) (hears : V → ℕ → List ℕ → ℕ → Went → V → Type 0) (does : V → Event → Went → V → Type 0) (session : ℕ) where
+  -- and behind these the session was hung in a turn
+  abbrev pub HearsThenHung : (left left' : Option (List ℕ)) → (before behind : Pass V E g) → Type 0
+  HearsThenHung left left' before behind = (between : Pass V E g) × HearsToEnd journal hears session left left' before between × IsHung journal does session between behind

@@ -58,7 +58,7 @@ pub enum ServeError {
 }
 
 /// A server of the tree of a store's records.
-#[tactic(auto, using(crate::proofs::Serving::is_server_of, crate::proofs::Serving::keeps_tree, crate::proofs::Serving::is_bad))]
+#[tactic(auto, using(crate::proofs::Serving::by_opened))]
 fn opened<R: Threads + Sync, S: Store>(
     rt: &R,
     alloc: Global,

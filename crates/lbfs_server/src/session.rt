@@ -8,10 +8,8 @@ ghost use Rattle.lb_base.specs.Known.{AppendsPrefix};
 ghost use Rattle.record_ends.specs.Ends.{out_bytes};
 ghost use Rattle.record_ends.specs.declared.end.End.TheVariants as ends;
 ghost use Rattle.lbfs_server.specs.Ends.{IsSpoilt};
-ghost use Rattle.lbfs_server.specs.Heard.{HearsToEnd};
-ghost use Rattle.server_turns.specs.Turned.{InTurn};
-ghost use Rattle.server_core.specs.declared.event.Event.TheVariants as event;
-ghost use Rattle.server_held.specs.declared.held.Went.{Went};
+ghost use Rattle.lbfs_server.specs.Heard.{HearsToEnd, HearsThenHung};
+ghost use Rattle.server_turns.specs.Turned.{IsHung};
 ghost use Rattle.turn_post.specs.Passes.{IsPassOf, Follows};
 
 use lb_base::source::Failed;
@@ -143,11 +141,11 @@ pub fn session_in<
 ) -> (Pass<H>, End)
     requires { IsPassOf shared.now.post pass }
     ensures pass { Follows shared.now.post pass result.0 }
-    ensures hung { (said : Went) × InTurn H.journal (λ found left. H.does found (event.Hang session) said left) pass result.0 }
+    ensures hung { IsHung H.journal H.does session pass result.0 }
     ensures ended { result.1 ≡ ends.InputEnd → IsAtEnd (L.left link.new) }
     ensures failed { result.1 ≡ ends.Failed → Rose (L.faults link.old) (L.faults link.new) }
     ensures spoilt { result.1 ≡ ends.Spoilt → IsSpoilt (L.left link.old) (L.left link.new) }
-    ensures heard { (result.1 ≡ ends.InputEnd) ⊎ (result.1 ≡ ends.Spoilt) → HearsToEnd H.journal H.hears session (L.left link.old) (L.left link.new) pass result.0 }
+    ensures heard { (result.1 ≡ ends.InputEnd) ⊎ (result.1 ≡ ends.Spoilt) → HearsThenHung H.journal H.hears H.does session (L.left link.old) (L.left link.new) pass result.0 }
     ensures out { L.held link.new ≡ L.held link.old }
     ensures later { L.faults link.old ≤ L.faults link.new }
 {
@@ -285,11 +283,11 @@ pub fn session_both<
 ) -> (Pass<H>, End)
     requires { IsPassOf shared.now.post pass }
     ensures pass { Follows shared.now.post pass result.0 }
-    ensures hung { (said : Went) × InTurn H.journal (λ found left. H.does found (event.Hang session) said left) pass result.0 }
+    ensures hung { IsHung H.journal H.does session pass result.0 }
     ensures ended { result.1 ≡ ends.InputEnd → IsAtEnd (L.left link.new) }
     ensures failed { result.1 ≡ ends.Failed → Rose (L.faults link.old) (L.faults link.new) }
     ensures spoilt { result.1 ≡ ends.Spoilt → IsSpoilt (L.left link.old) (L.left link.new) }
-    ensures heard { (result.1 ≡ ends.InputEnd) ⊎ (result.1 ≡ ends.Spoilt) → HearsToEnd H.journal H.hears session (L.left link.old) (L.left link.new) pass result.0 }
+    ensures heard { (result.1 ≡ ends.InputEnd) ⊎ (result.1 ≡ ends.Spoilt) → HearsThenHung H.journal H.hears H.does session (L.left link.old) (L.left link.new) pass result.0 }
     ensures later { L.faults link.old ≤ L.faults link.new }
 {
     let (pass, end) = both_on(rt, shared, pass, session, link, clock);

@@ -4,6 +4,8 @@ use mathlib.Core.List.{IsPrefix}
 use Rattle.turn_post.specs.declared.journaled.Journaled.{Ghosts}
 use Rattle.turn_post.specs.declared.post.Pass.{Pass}
 use Rattle.turn_post.specs.Passes.{seen}
+use Rattle.server_core.specs.declared.event.Event.{Event}
+use Rattle.server_core.specs.declared.event.Event.TheVariants as event
 use Rattle.server_held.specs.declared.held.Went.{Went}
 
 module _ {V E : Type 0} {g : Ghosts V E} (journal : V → List E) where
@@ -19,3 +21,8 @@ module _ {V E : Type 0} {g : Ghosts V E} (journal : V → List E) (hears : V →
   -- a record of the session was heard in a turn, at some reading
   abbrev pub IsHeard : List ℕ → (before behind : Pass V E g) → Type 0
   IsHeard bytes before behind = (now : ℕ) × (said : Went) × InTurn journal (λ found left. hears found session bytes now said left) before behind
+
+module _ {V E : Type 0} {g : Ghosts V E} (journal : V → List E) (does : V → Event → Went → V → Type 0) where
+  -- a session was hung in a turn
+  abbrev pub IsHung : (session : ℕ) → (before behind : Pass V E g) → Type 0
+  IsHung session before behind = (said : Went) × InTurn journal (λ found left. does found (event.Hang session) said left) before behind

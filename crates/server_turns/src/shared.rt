@@ -2,10 +2,10 @@
 //! thread's may stand before and behind it; so a clause says that in some turn behind what the pass had seen a
 //! value did just that (`InTurn`).
 
-ghost use Rattle.std.specs.Prelude.{◌≡◌, true, nat_le, ◌<◌, ◌^◌, [], ◌∷◌, length, All, Contains, OnOk, IfOk};
+ghost use Rattle.std.specs.Prelude.{◌≡◌, true, nat_le, ◌<◌, ◌^◌, [], ◌∷◌, length, All, Contains, OnOk, IfOk, IfSome};
 ghost use Rattle.std.specs.List.Sorted.{IsPermutation};
 ghost use Rattle.server_turns.specs.Telling.{any_tells};
-ghost use Rattle.server_turns.specs.Turned.{InTurn, IsHeard};
+ghost use Rattle.server_turns.specs.Turned.{InTurn, IsHeard, IsHung};
 ghost use Rattle.server_turns.specs.declared.shared.SessionLink.{SessionLink};
 ghost use Rattle.server_core.specs.Step.{IsTimed};
 ghost use Rattle.server_law.specs.Growth.{MayAdd};
@@ -112,7 +112,9 @@ struct SessionLink<L> {
 /// Lets a session's link go, where there is one; all others stay. A session's link is kept once
 /// (`keep_link`), and its number is no later session's, so there is no second one.
 fn remove_link<L: Drop>(links: &mut Vec<SessionLink<L>>, session: u32)
-    ensures gone { (one : SessionLink L) → Contains links.old.items one → one.session ≡ session → (gone : SessionLink L) × (gone.session ≡ session) × IsPermutation links.old.items (gone ∷ links.new.items) }
+    ensures gone { (one : SessionLink L) → Contains links.old.items one → one.session ≡ session
+        → (gone : SessionLink L) × (gone.session ≡ session)
+        × IsPermutation links.old.items (gone ∷ links.new.items) }
     ensures none { All (λ one. ¬ (one.session ≡ session)) links.old.items → links.new.items ≡ links.old.items }
 {
     let mut at = 0;
@@ -541,25 +543,56 @@ impl<H: Turns + Drop, Y: Syncs, G: Gate + Drop, L: Link + Drop> Shared<H, Y, G, 
         (pass, taken)
     }
 
-    /// Ends the sessions that were to be asked for something and have no xid left, from this one on. Their
-    /// leases stay until they end.
+    /// Ends the session that was to be asked for something and has no xid left, if there is one, and others as
+    /// it. Their leases stay until they end.
     fn close_spent<W: Wait>(&self, rt: &W, pass: Pass<H>, settled: Settled) -> Pass<H>
+        requires { IsPassOf self.now.post pass }
+        ensures follows { Follows self.now.post pass result }
+        ensures hung { IfSome settled.spent (λ session. IsHung H.journal H.does session pass result) }
+    {
+        let Settled { went: _, spent } = settled;
+        match spent {
+            Some(session) => self.hang_on(rt, pass, session),
+            None => pass,
+        }
+    }
+
+    /// Hangs a session that has no xid left, and then each other one.
+    fn hang_on<W: Wait>(&self, rt: &W, pass: Pass<H>, session: u32) -> Pass<H>
+        requires { IsPassOf self.now.post pass }
+        ensures follows { Follows self.now.post pass result }
+        ensures hung { IsHung H.journal H.does session pass result }
+    {
+        let (pass, spent) = self.hang_spent(rt, pass, session);
+        self.hang_others(rt, pass, spent)
+    }
+
+    /// Hangs the sessions that have no xid left, from this one on.
+    fn hang_others<W: Wait>(&self, rt: &W, pass: Pass<H>, spent: Option<u32>) -> Pass<H>
         requires { IsPassOf self.now.post pass }
         ensures { Follows self.now.post pass result }
     {
-        let Settled { went: _, spent } = settled;
         let mut pass = pass;
         let mut spent = spent;
         for _at in 0..PLACES {
             let Some(session) = spent else {
                 return pass;
             };
-            let (next, _went) = self.event(rt, pass, Event::Hang { session });
-            let (next, later) = self.spent_now(rt, next);
+            let (next, later) = self.hang_spent(rt, pass, session);
             pass = next;
             spent = later;
         }
         pass
+    }
+
+    /// Hangs a session, and looks for one that has no xid left.
+    fn hang_spent<W: Wait>(&self, rt: &W, pass: Pass<H>, session: u32) -> (Pass<H>, Option<u32>)
+        requires { IsPassOf self.now.post pass }
+        ensures follows { Follows self.now.post pass result.0 }
+        ensures hung { IsHung H.journal H.does session pass result.0 }
+    {
+        let (next, _went) = self.event(rt, pass, Event::Hang { session });
+        self.spent_now(rt, next)
     }
 
     /// Shuts the links of the sessions that are gone, and looks for one that has no xid left.
