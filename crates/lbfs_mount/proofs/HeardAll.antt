@@ -1,20 +1,15 @@
--- Records that a connection's thread gave to the client, and lines that ran.
-use Rattle.std.specs.Prelude.{◌≡◌, ◌⊎◌, ℕ, List, [], ◌∷◌, ◌++◌, Option, Some, None, Result, Ok, Err, Bool, OnOk}
-use Rattle.std.proofs.Common.{refl, sym, ap, subst, ◌∙◌, append_assoc, inl, inr}
+-- Records that a connection's thread gave to the client.
+use Rattle.std.specs.Prelude.{◌≡◌, ℕ, ◌≤◌, List, [], ◌∷◌, ◌++◌, Option, None, Bool}
+use Rattle.std.proofs.Common.{refl, sym, ap, ◌∙◌, append_assoc}
 use Rattle.std.proofs.lemmas.List.Elements.{All-nil, All-push}
-use Rattle.std.specs.Io.KnownBytes.{Appends, Consumes, IsAtEnd}
-use Rattle.std.specs.declared.alloc.AllocError.{AllocError}
+use Rattle.std.specs.Io.KnownBytes.{Consumes, IsAtEnd}
+use Rattle.lb_base.specs.Causes.{Rose}
 use Rattle.record_ends.specs.Ends.{Kept, coming, Gives, Takes}
 use Rattle.record_ends.specs.declared.end.End.{End}
 use Rattle.record_ends.specs.declared.end.End.TheVariants as ends
-use Rattle.lb_base.specs.declared.sink.GiveError.{GiveError}
-use Rattle.lb_base.specs.declared.sink.GiveError.TheVariants as give
-use Rattle.lbfs_client.specs.declared.line.MountLine.{MountLine}
-use Rattle.lbfs_mount.specs.Heard.{Gave, IsHeard, HearsAll, Ran, RunsTold}
-use Rattle.lbfs_mount.specs.Mounts.{written_as}
-use Rattle.lbfs_mount.specs.declared.answer_line.AnswerLine.{AnswerLine}
-use Rattle.lbfs_mount.specs.declared.mount_error.MountError.{MountError}
+use Rattle.lbfs_mount.specs.Heard.{Gave, IsHeard, HearsAll, HearsTill}
 use Rattle.lbfs_mount.proofs.Coming.{consumes_more, consumes_none}
+use Rattle.lbfs_mount.proofs.Progress.{rose_more}
 
 -- ---- records
 
@@ -55,28 +50,13 @@ module _ {D : Type 0} (hears : D → ℕ → List ℕ → Bool → ℕ → Bool 
     heard = all.heard;
   }
 
-  -- a loop over the records of a link ends with them, or with bytes behind which none can stand
-  pub hears_at_end : (before between after : Option (List ℕ)) (kept mid new : Kept) (end : End) → HearsAll hears connection before between kept mid
+  -- a loop over the records of a link ends with the end that came
+  pub hears_till : (before between after : Option (List ℕ)) (faults later faults' : ℕ) (kept mid new : Kept) (end : End) → HearsAll hears connection before between kept mid → faults ≤ later
       → (end ≡ ends.InputEnd → (bytes : List ℕ) × Consumes between after bytes × Takes mid bytes new × IsAtEnd after × (new.waiting ≡ []) × (new.unread.spoilt ≡ None))
+      → (end ≡ ends.Failed → (bytes : List ℕ) × Consumes between after bytes × Takes mid bytes new × Rose later faults')
       → (end ≡ ends.Spoilt → (bytes : List ℕ) × Consumes between after bytes × Takes mid bytes new × (new.waiting ≡ []) × ¬ (new.unread.spoilt ≡ None))
-      → (end ≡ ends.InputEnd) ⊎ (end ≡ ends.Spoilt) → HearsAll hears connection before after kept new × (new.waiting ≡ [])
-  hears_at_end before between after kept mid new end all ended spoilt (inl is) = let e = ended is in (hears_to_end before between after kept mid new e.0 all e.1 e.2, e.4)
-  hears_at_end before between after kept mid new end all ended spoilt (inr is) = let e = spoilt is in (hears_to_end before between after kept mid new e.0 all e.1 e.2, e.3)
-
--- ---- lines
-
--- what was given to a sink is the text
-pub text_given : (r : Result Unit GiveError) (held held' : Option (List ℕ)) (bytes text : List ℕ) → bytes ≡ text → OnOk r (Appends held held' bytes) → OnOk (written_as r) (Appends held held' text)
-text_given (Ok u) held held' bytes text same out = subst (λ (xs : List ℕ). Appends held held' xs) same out
-text_given (Err give.Failed) held held' bytes text same out = tt
-text_given (Err give.Memory) held held' bytes text same out = tt
-
-module _ {D : Type 0} (runs : D → MountLine → ℕ → Bool → D → Type 0) (takes : D → Result AnswerLine AllocError → D → Type 0) where
-  pub ran_told : (l : MountLine) (answer : AnswerLine) (held held' : Option (List ℕ)) (r : Result Unit MountError) → Ran runs takes l answer → OnOk r (Appends held held' answer.text)
-      → OnOk r ((a : AnswerLine) × Ran runs takes l a × Appends held held' a.text)
-  ran_told l answer held held' (Ok u) ran out = (answer, ran, out)
-  ran_told l answer held held' (Err e) ran out = tt
-
-  pub line_told : (o : Option MountLine) (l : MountLine) (held held' : Option (List ℕ)) (r : Result Unit MountError) → o ≡ Some l → OnOk r ((a : AnswerLine) × Ran runs takes l a × Appends held held' a.text) → OnOk r (RunsTold runs takes o held held')
-  line_told o l held held' (Ok u) is told = inr (l, told.0, is, told.1, told.2)
-  line_told o l held held' (Err e) is told = tt
+      → HearsTill hears connection before after faults faults' kept new end
+  hears_till before between after faults later faults' kept mid new ends.InputEnd all more ended failed spoilt = let e = ended refl in (hears_to_end before between after kept mid new e.0 all e.1 e.2, e.3, e.4)
+  hears_till before between after faults later faults' kept mid new ends.Failed all more ended failed spoilt = let e = failed refl in (hears_to_end before between after kept mid new e.0 all e.1 e.2, rose_more faults later faults' more e.3)
+  hears_till before between after faults later faults' kept mid new ends.Spoilt all more ended failed spoilt = let e = spoilt refl in (hears_to_end before between after kept mid new e.0 all e.1 e.2, e.3, e.4)
+  hears_till before between after faults later faults' kept mid new ends.Memory all more ended failed spoilt = tt

@@ -3,7 +3,9 @@ use Rattle.std.specs.Prelude.{◌≡◌, ◌⊎◌, ℕ, List, [], Option, Resul
 use Rattle.std.specs.Io.KnownBytes.{Appends}
 use Rattle.lb_base.specs.Known.{AppendsPrefix}
 use Rattle.lb_base.specs.Causes.{Rose}
-use Rattle.lbfs_mount.specs.Mounts.{IsAnswer, IsBadLine, IsDone, IsTooLong, Outside, Unwritten, Writes}
+use Rattle.lbfs_client.specs.declared.line.MountLine.{MountLine}
+use Rattle.mount_desk.specs.Turns.{IsAnswer}
+use Rattle.lbfs_mount.specs.Mounts.{IsBadLine, IsDone, IsTooLong, Outside, Unwritten, Writes}
 use Rattle.lbfs_mount.specs.declared.mount_error.MountError.{MountError}
 use Rattle.lbfs_mount.specs.declared.mount_error.MountError.TheVariants as errors
 
@@ -33,31 +35,33 @@ Between cached P held held' = (first : Option (List ℕ)) × (last : Option (Lis
 abbrev pub Behind : (cached : Bool) → ((held held' : Option (List ℕ)) → Type 0) → (held held' : Option (List ℕ)) → Type 0
 Behind cached P held held' = (first : Option (List ℕ)) × Notes cached held first × P first held'
 
-abbrev pub IsDoneAll : (cached : Bool) → (left left' held held' : Option (List ℕ)) → Type 0
-IsDoneAll cached left left' held held' = Between cached (IsDone left left') held held'
+module _ (Says : MountLine → List ℕ → Type 0) where
+  abbrev pub IsDoneAll : (cached : Bool) → (left left' held held' : Option (List ℕ)) → Type 0
+  IsDoneAll cached left left' held held' = Between cached (IsDone Says left left') held held'
 
-abbrev pub IsBadLineAll : (cached : Bool) → (left left' held held' : Option (List ℕ)) → (number : ℕ) → Type 0
-IsBadLineAll cached left left' held held' number = Behind cached (λ first last. IsBadLine left left' first last number) held held'
+  abbrev pub IsBadLineAll : (cached : Bool) → (left left' held held' : Option (List ℕ)) → (number : ℕ) → Type 0
+  IsBadLineAll cached left left' held held' number = Behind cached (λ first last. IsBadLine Says left left' first last number) held held'
 
 -- however a mount ends: a front of the first notice was written; or all of it, then a front of what tells some lines, and behind that
 -- nothing or a front of the last one
-pub data WritesAll (cached : Bool) (held held' : Option (List ℕ)) : Type 0 where
-  notice : NotesPart cached held held' → WritesAll cached held held'
-  lines : Behind cached Writes held held' → WritesAll cached held held'
-  last : (first last : Option (List ℕ)) → Notes cached held first → Writes first last → NotesPart cached last held' → WritesAll cached held held'
+pub data WritesAll (Says : MountLine → List ℕ → Type 0) (cached : Bool) (held held' : Option (List ℕ)) : Type 0 where
+  notice : NotesPart cached held held' → WritesAll Says cached held held'
+  lines : Behind cached (Writes Says) held held' → WritesAll Says cached held held'
+  last : (first last : Option (List ℕ)) → Notes cached held first → Writes Says first last → NotesPart cached last held' → WritesAll Says cached held held'
 
--- why such a mount ended before its script did, or behind it
-abbrev pub FailsAll : (cached : Bool) → (link_fails : Type 0) → (old new : Outside) → MountError → Type 0
-FailsAll cached link_fails o s errors.ReadFault = Rose o.reads s.reads
-FailsAll cached link_fails o s errors.WriteFault = Rose o.writes s.writes
-FailsAll cached link_fails o s errors.Network = Rose o.dials s.dials ⊎ link_fails
-FailsAll cached link_fails o s (errors.BadLine n) = IsBadLineAll cached o.left s.left o.held s.held n
-FailsAll cached link_fails o s errors.TooLong = IsTooLong o.left s.left
-FailsAll cached link_fails o s errors.Memory = Unit {0}
+module _ (Says : MountLine → List ℕ → Type 0) where
+  -- why such a mount ended before its script did, or behind it
+  abbrev pub FailsAll : (cached : Bool) → (link_fails : Type 0) → (old new : Outside) → MountError → Type 0
+  FailsAll cached link_fails o s errors.ReadFault = Rose o.reads s.reads
+  FailsAll cached link_fails o s errors.WriteFault = Rose o.writes s.writes
+  FailsAll cached link_fails o s errors.Network = Rose o.dials s.dials ⊎ link_fails
+  FailsAll cached link_fails o s (errors.BadLine n) = IsBadLineAll Says cached o.left s.left o.held s.held n
+  FailsAll cached link_fails o s errors.TooLong = IsTooLong o.left s.left
+  FailsAll cached link_fails o s errors.Memory = Unit {0}
 
-abbrev pub EndsAll : (cached : Bool) → (link_fails : Type 0) → (old new : Outside) → Result Unit MountError → Type 0
-EndsAll cached link_fails o s (Ok u) = IsDoneAll cached o.left s.left o.held s.held
-EndsAll cached link_fails o s (Err e) = WritesAll cached o.held s.held × FailsAll cached link_fails o s e
+  abbrev pub EndsAll : (cached : Bool) → (link_fails : Type 0) → (old new : Outside) → Result Unit MountError → Type 0
+  EndsAll cached link_fails o s (Ok u) = IsDoneAll Says cached o.left s.left o.held s.held
+  EndsAll cached link_fails o s (Err e) = WritesAll Says cached o.held s.held × FailsAll cached link_fails o s e
 
 -- the cache file is written where the script was read to its end, and else nothing happens
 abbrev pub SavesAfter : (cached : Bool) → Result Unit MountError → (held held' : Option (List ℕ)) → (writes writes' : ℕ) → Result Unit MountError → Type 0

@@ -1,13 +1,16 @@
 -- Which records of a connection were given to the client, and which lines ran, each in a turn of its own. Other turns may stand before, between and behind these.
-use Rattle.std.specs.Prelude.{◌≡◌, ◌⊎◌, ℕ, List, [], ◌++◌, Option, Some, Result, Ok, Bool, false, All}
-use Rattle.std.specs.Io.KnownBytes.{Appends, Consumes}
+use Rattle.std.specs.Prelude.{◌≡◌, ◌⊎◌, ℕ, List, [], ◌++◌, Option, None, Result, Ok, Bool, false, All}
+use Rattle.std.specs.Io.KnownBytes.{Consumes, IsAtEnd}
 use Rattle.std.specs.declared.alloc.AllocError.{AllocError}
+use Rattle.lb_base.specs.Causes.{Rose}
 use Rattle.record_ends.specs.Ends.{Kept, coming}
 use Rattle.record_ends.specs.declared.end.End.{End}
 use Rattle.record_ends.specs.declared.end.End.TheVariants as ends
 use Rattle.lbfs_client.specs.declared.line.MountLine.{MountLine}
-use Rattle.lbfs_client.specs.declared.line.MountLine.TheVariants as line
-use Rattle.lbfs_mount.specs.declared.answer_line.AnswerLine.{AnswerLine}
+use Rattle.mount_desk.specs.Calls.{DeskRuns, DeskTakes}
+use Rattle.mount_desk.specs.Turns.{IsAnswer}
+use Rattle.mount_desk.specs.declared.answer_line.AnswerLine.{AnswerLine}
+use Rattle.mount_desk.specs.declared.desk.Desk.{Desk}
 
 -- ---- records
 
@@ -35,12 +38,18 @@ module _ {D : Type 0} (hears : D → ℕ → List ℕ → Bool → ℕ → Bool 
   abbrev pub IsLast : Type 0
   IsLast = (bytes : List ℕ) × IsHeardSo false bytes
 
--- A connection's thread has given the client each record that came, until the client was done with the connection; or until it was told an end, and
--- where that is the input's, or no record can follow, no record is kept that it hasn't heard.
-abbrev pub HearsTo : {D : Type 0} → (hears : D → ℕ → List ℕ → Bool → ℕ → Bool → D → Type 0) → (stops : D → ℕ → End → ℕ → D → Type 0) → (connection : ℕ) → (left left' : Option (List ℕ)) → (kept kept' : Kept) → Type 0
-HearsTo {D} hears stops connection left left' kept kept' =
+  -- Each record that came was heard until this end did: the input's, or that no record can follow, so that none is kept that wasn't heard; or the link failed.
+  abbrev pub HearsTill : (left left' : Option (List ℕ)) → (faults faults' : ℕ) → (kept kept' : Kept) → End → Type 0
+  HearsTill left left' faults faults' kept kept' ends.InputEnd = HearsAll left left' kept kept' × IsAtEnd left' × (kept'.waiting ≡ [])
+  HearsTill left left' faults faults' kept kept' ends.Failed = HearsAll left left' kept kept' × Rose faults faults'
+  HearsTill left left' faults faults' kept kept' ends.Spoilt = HearsAll left left' kept kept' × (kept'.waiting ≡ []) × ¬ (kept'.unread.spoilt ≡ None)
+  HearsTill left left' faults faults' kept kept' ends.Memory = Unit {0}
+
+-- A connection's thread has given the client each record that came, until the client was done with the connection, or until it was told an end that came.
+abbrev pub HearsTo : {D : Type 0} → (hears : D → ℕ → List ℕ → Bool → ℕ → Bool → D → Type 0) → (stops : D → ℕ → End → ℕ → D → Type 0) → (connection : ℕ) → (left left' : Option (List ℕ)) → (faults faults' : ℕ) → (kept kept' : Kept) → Type 0
+HearsTo {D} hears stops connection left left' faults faults' kept kept' =
     (HearsAll hears connection left left' kept kept' × IsLast hears connection)
-    ⊎ ((end : End) × ((end ≡ ends.InputEnd) ⊎ (end ≡ ends.Spoilt) → HearsAll hears connection left left' kept kept' × (kept'.waiting ≡ [])) × ((now : ℕ) × (a : D) × (b : D) × stops a connection end now b))
+    ⊎ ((end : End) × HearsTill hears connection left left' faults faults' kept kept' end × ((now : ℕ) × (a : D) × (b : D) × stops a connection end now b))
 
 -- ---- lines
 
@@ -49,6 +58,10 @@ module _ {D : Type 0} (runs : D → MountLine → ℕ → Bool → D → Type 0)
   abbrev pub Ran : MountLine → AnswerLine → Type 0
   Ran l answer = ((now : ℕ) × (wants : Bool) × (a : D) × (b : D) × runs a l now wants b) × ((a : D) × (b : D) × takes a (Ok answer) b)
 
-  -- a line of the script says nothing, and nothing was written; or it ran, and what was taken then was written
-  abbrev pub RunsTold : Option MountLine → (held held' : Option (List ℕ)) → Type 0
-  RunsTold o held held' = ((o ≡ Some line.Skipped) × Appends held held' []) ⊎ ((l : MountLine) × (answer : AnswerLine) × (o ≡ Some l) × Ran l answer × Appends held held' answer.text)
+  -- what is written for a line that ran: the line of an answer, which a turn took
+  abbrev pub SaysRun : MountLine → List ℕ → Type 0
+  SaysRun l told = IsAnswer told × (answer : AnswerLine) × Ran l answer × (told ≡ answer.text)
+
+-- the same, by the turns of a mount's desk
+abbrev pub SaysAt : (F : Type 0) → {L : Type 0} → (held : L → Option (List ℕ)) → (faults : L → ℕ) → MountLine → List ℕ → Type 0
+SaysAt F {L} held faults = SaysRun {D = Desk F L} (DeskRuns held faults) DeskTakes

@@ -9,9 +9,7 @@ use Rattle.lb_base.specs.declared.source.ReadError.{ReadError}
 use Rattle.lb_base.specs.declared.source.ReadError.TheVariants as read
 use Rattle.limits.specs.declared.TheConstants.{INPUT_MOST}
 use Rattle.command_text.specs.Parts.{lines_of}
-use Rattle.lbfs_client.specs.Answers.{answer_line}
 use Rattle.lbfs_client.specs.Lines.{line_of}
-use Rattle.lbfs_client.specs.declared.answer.Answer.{Answer}
 use Rattle.lbfs_client.specs.declared.line.MountLine.{MountLine}
 use Rattle.lbfs_client.specs.declared.line.MountLine.TheVariants as line
 use Rattle.lbfs_mount.specs.declared.mount_error.MountError.{MountError}
@@ -19,57 +17,55 @@ use Rattle.lbfs_mount.specs.declared.mount_error.MountError.TheVariants as error
 
 -- ---- what is written
 
--- the line that tells how an operation ended
-abbrev pub IsAnswer : List ℕ → Type 0
-IsAnswer text = ∥ ((a : Answer) × (text ≡ answer_line a)) ∥₁
-
 -- whether a line is skipped
 abbrev pub is_skip : MountLine → Bool
 is_skip line.Skipped = true
 is_skip l = false
 
-abbrev pub TellsIf : (is_skip : Bool) → List ℕ → Type 0
-TellsIf true told = told ≡ []
-TellsIf false told = IsAnswer told
+module _ (Says : MountLine → List ℕ → Type 0) where
+  abbrev pub TellsIf : (is_skip : Bool) → MountLine → List ℕ → Type 0
+  TellsIf true l told = told ≡ []
+  TellsIf false l told = Says l told
 
--- what is written for a line of the script: nothing where it is skipped, else one answer
-abbrev pub TellsLine : Option MountLine → List ℕ → Type 0
-TellsLine None told = ⊥
-TellsLine (Some l) told = TellsIf (is_skip l) told
+  -- what is written for a line of the script: nothing where it is skipped, else what it says
+  abbrev pub TellsLine : Option MountLine → List ℕ → Type 0
+  TellsLine None told = ⊥
+  TellsLine (Some l) told = TellsIf (is_skip l) l told
 
 -- what is written for these lines, in order
-pub data Tells : List (List ℕ) → List ℕ → Type 0 where
-  nothing : Tells [] []
-  more : (lines : List (List ℕ)) (written text told : List ℕ) → Tells lines written → TellsLine (line_of text) told → Tells (lines ++ text ∷ []) (written ++ told)
+pub data Tells (Says : MountLine → List ℕ → Type 0) : List (List ℕ) → List ℕ → Type 0 where
+  nothing : Tells Says [] []
+  more : (lines : List (List ℕ)) (written text told : List ℕ) → Tells Says lines written → TellsLine Says (line_of text) told → Tells Says (lines ++ text ∷ []) (written ++ told)
 
 -- ---- how a mount ends
-
--- the script was read to its end, and what was written tells all of its lines
-abbrev pub IsDone : (left left' held held' : Option (List ℕ)) → Type 0
-IsDone left left' held held' = (script : List ℕ) × (written : List ℕ) × Consumes left left' script × IsAtEnd left' × Tells (lines_of script) written × Appends held held' written
-
--- however a mount ends: a front of what tells some lines was written
-abbrev pub Writes : (held held' : Option (List ℕ)) → Type 0
-Writes held held' = (lines : List (List ℕ)) × (written : List ℕ) × Tells lines written × AppendsPrefix held held' written
 
 -- whatever follows these bytes, where something may, their lines are these and then others
 abbrev pub BeginsWith : (ended : Bool) → (bytes : List ℕ) → List (List ℕ) → Type 0
 BeginsWith ended bytes lines = (more : List ℕ) → (ended ≡ true → more ≡ []) → (rest : List (List ℕ)) × (lines_of (bytes ++ more) ≡ lines ++ rest)
 
--- the line of this number, from 1, is the first that is none of a script; the lines before it were told
-pub record IsBadLine (left left' held held' : Option (List ℕ)) (number : ℕ) : Type 0 where
-  pub bytes : List ℕ
-  pub taken : Consumes left left' bytes
-  pub ended : Bool
-  pub at_end : ended ≡ true → IsAtEnd left'
-  pub lines : List (List ℕ)
-  pub text : List ℕ
-  pub stand : BeginsWith ended bytes (lines ++ text ∷ [])
-  pub counted : number ≡ length lines + 1
-  pub bad : line_of text ≡ None
-  pub written : List ℕ
-  pub told : Tells lines written
-  pub out : Appends held held' written
+module _ (Says : MountLine → List ℕ → Type 0) where
+  -- the script was read to its end, and what was written tells all of its lines
+  abbrev pub IsDone : (left left' held held' : Option (List ℕ)) → Type 0
+  IsDone left left' held held' = (script : List ℕ) × (written : List ℕ) × Consumes left left' script × IsAtEnd left' × Tells Says (lines_of script) written × Appends held held' written
+
+  -- however a mount ends: a front of what tells some lines was written
+  abbrev pub Writes : (held held' : Option (List ℕ)) → Type 0
+  Writes held held' = (lines : List (List ℕ)) × (written : List ℕ) × Tells Says lines written × AppendsPrefix held held' written
+
+  -- the line of this number, from 1, is the first that is none of a script; the lines before it were told
+  pub record IsBadLine (left left' held held' : Option (List ℕ)) (number : ℕ) : Type 0 where
+    pub bytes : List ℕ
+    pub taken : Consumes left left' bytes
+    pub ended : Bool
+    pub at_end : ended ≡ true → IsAtEnd left'
+    pub lines : List (List ℕ)
+    pub text : List ℕ
+    pub stand : BeginsWith ended bytes (lines ++ text ∷ [])
+    pub counted : number ≡ length lines + 1
+    pub bad : line_of text ≡ None
+    pub written : List ℕ
+    pub told : Tells Says lines written
+    pub out : Appends held held' written
 
 -- more bytes were taken than a script may have
 abbrev pub IsTooLong : (left left' : Option (List ℕ)) → Type 0
@@ -120,15 +116,10 @@ read_end read.Fault = errors.ReadFault
 read_end read.TooLong = errors.TooLong
 read_end read.Memory = errors.Memory
 
--- an answer was written, or a front of one and why not all
-abbrev pub WriteEnds : (held held' : Option (List ℕ)) → (writes writes' : ℕ) → Result Unit MountError → Type 0
-WriteEnds held held' writes writes' (Ok u) = (told : List ℕ) × IsAnswer told × Appends held held' told
-WriteEnds held held' writes writes' (Err e) = ((told : List ℕ) × IsAnswer told × AppendsPrefix held held' told) × Unwritten writes writes' e
-
--- the same, where its line ran first
-abbrev pub AnswerEnds : (link_fails : Type 0) → (held held' : Option (List ℕ)) → (writes writes' dials dials' : ℕ) → Result Unit MountError → Type 0
-AnswerEnds link_fails held held' writes writes' dials dials' (Ok u) = (told : List ℕ) × IsAnswer told × Appends held held' told
-AnswerEnds link_fails held held' writes writes' dials dials' (Err e) = ((told : List ℕ) × IsAnswer told × AppendsPrefix held held' told) × Untold link_fails writes writes' dials dials' e
+-- a text was written, or a front of it and why not all
+abbrev pub WriteEnds : (text : List ℕ) → (held held' : Option (List ℕ)) → (writes writes' : ℕ) → Result Unit MountError → Type 0
+WriteEnds text held held' writes writes' (Ok u) = Appends held held' text
+WriteEnds text held held' writes writes' (Err e) = AppendsPrefix held held' text × Unwritten writes writes' e
 
 -- why a line of this number, read so, wasn't run or told
 abbrev pub TextFails : (link_fails : Type 0) → Option MountLine → (number : ℕ) → (held held' : Option (List ℕ)) → (writes writes' dials dials' : ℕ) → MountError → Type 0
@@ -139,23 +130,29 @@ TextFails link_fails l number held held' writes writes' dials dials' errors.Writ
 TextFails link_fails l number held held' writes writes' dials dials' errors.Network = Rose dials dials' ⊎ link_fails
 TextFails link_fails l number held held' writes writes' dials dials' errors.Memory = Unit {0}
 
--- nothing was written for a line, or a front of what tells it
-abbrev pub WritesPart : Option MountLine → (held held' : Option (List ℕ)) → Type 0
-WritesPart l held held' = Appends held held' [] ⊎ ((told : List ℕ) × TellsLine l told × AppendsPrefix held held' told)
+module _ (Says : MountLine → List ℕ → Type 0) where
+  -- what a line says was written, where it ran; or nothing, or a front of that
+  abbrev pub AnswerEnds : (link_fails : Type 0) → MountLine → (held held' : Option (List ℕ)) → (writes writes' dials dials' : ℕ) → Result Unit MountError → Type 0
+  AnswerEnds link_fails l held held' writes writes' dials dials' (Ok u) = (told : List ℕ) × Says l told × Appends held held' told
+  AnswerEnds link_fails l held held' writes writes' dials dials' (Err e) = (Appends held held' [] ⊎ ((told : List ℕ) × Says l told × AppendsPrefix held held' told)) × Untold link_fails writes writes' dials dials' e
 
-abbrev pub TextEnds : (link_fails : Type 0) → Option MountLine → (number : ℕ) → (held held' : Option (List ℕ)) → (writes writes' dials dials' : ℕ) → Result Unit MountError → Type 0
-TextEnds link_fails l number held held' writes writes' dials dials' (Ok u) = (told : List ℕ) × TellsLine l told × Appends held held' told
-TextEnds link_fails l number held held' writes writes' dials dials' (Err e) = WritesPart l held held' × TextFails link_fails l number held held' writes writes' dials dials' e
+  -- nothing was written for a line, or a front of what tells it
+  abbrev pub WritesPart : Option MountLine → (held held' : Option (List ℕ)) → Type 0
+  WritesPart l held held' = Appends held held' [] ⊎ ((told : List ℕ) × TellsLine Says l told × AppendsPrefix held held' told)
 
--- why a mount ended before its script did
-abbrev pub Fails : (link_fails : Type 0) → (old new : Outside) → MountError → Type 0
-Fails link_fails o s errors.ReadFault = Rose o.reads s.reads
-Fails link_fails o s errors.WriteFault = Rose o.writes s.writes
-Fails link_fails o s errors.Network = Rose o.dials s.dials ⊎ link_fails
-Fails link_fails o s (errors.BadLine n) = IsBadLine o.left s.left o.held s.held n
-Fails link_fails o s errors.TooLong = IsTooLong o.left s.left
-Fails link_fails o s errors.Memory = Unit {0}
+  abbrev pub TextEnds : (link_fails : Type 0) → Option MountLine → (number : ℕ) → (held held' : Option (List ℕ)) → (writes writes' dials dials' : ℕ) → Result Unit MountError → Type 0
+  TextEnds link_fails l number held held' writes writes' dials dials' (Ok u) = (told : List ℕ) × TellsLine Says l told × Appends held held' told
+  TextEnds link_fails l number held held' writes writes' dials dials' (Err e) = WritesPart l held held' × TextFails link_fails l number held held' writes writes' dials dials' e
 
-abbrev pub Ends : (link_fails : Type 0) → (old new : Outside) → Result Unit MountError → Type 0
-Ends link_fails o s (Ok u) = IsDone o.left s.left o.held s.held
-Ends link_fails o s (Err e) = Writes o.held s.held × Fails link_fails o s e
+  -- why a mount ended before its script did
+  abbrev pub Fails : (link_fails : Type 0) → (old new : Outside) → MountError → Type 0
+  Fails link_fails o s errors.ReadFault = Rose o.reads s.reads
+  Fails link_fails o s errors.WriteFault = Rose o.writes s.writes
+  Fails link_fails o s errors.Network = Rose o.dials s.dials ⊎ link_fails
+  Fails link_fails o s (errors.BadLine n) = IsBadLine Says o.left s.left o.held s.held n
+  Fails link_fails o s errors.TooLong = IsTooLong o.left s.left
+  Fails link_fails o s errors.Memory = Unit {0}
+
+  abbrev pub Ends : (link_fails : Type 0) → (old new : Outside) → Result Unit MountError → Type 0
+  Ends link_fails o s (Ok u) = IsDone Says o.left s.left o.held s.held
+  Ends link_fails o s (Err e) = Writes Says o.held s.held × Fails link_fails o s e

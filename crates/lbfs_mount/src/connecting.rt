@@ -5,12 +5,12 @@ ghost use Rattle.lbfs_mount.specs.Mounts.{IsFaulty, Unjoined};
 
 use crate::hearing::hear_all;
 use crate::mount_error::MountError;
-use crate::shared::ScriptTurns;
-use crate::turns::Turns;
 use lb_base::source::Failed;
 use links::clock::Clock;
 use links::link::Link;
 use links::network::Network;
+use mount_desk::shared::ScriptTurns;
+use mount_desk::turns::Turns;
 use record_ends::inbox::Inbox;
 use std::alloc::Global;
 use std::sync::Wait;

@@ -4,10 +4,10 @@
 
 ghost use Rattle.lbfs_mount.specs.Heard.{HearsTo};
 
-use crate::shared::Shared;
-use crate::turns::Turns;
 use links::clock::Clock;
 use links::link::Link;
+use mount_desk::shared::Shared;
+use mount_desk::turns::Turns;
 use record_ends::inbox::Inbox;
 use std::sync::Wait;
 
@@ -20,7 +20,7 @@ pub(crate) fn hear_all<W: Wait, D: Turns + Drop, L: Link + Drop, C: Clock>(
     inbox: &mut Inbox,
     clock: &C,
 )
-    ensures { HearsTo D.hears D.stops connection (L.left link.old) (L.left link.new) inbox.old inbox.new }
+    ensures { HearsTo D.hears D.stops connection (L.left link.old) (L.left link.new) (L.faults link.old) (L.faults link.new) inbox.old inbox.new }
 {
     for _turn in rt.forever() {
         match inbox.next(shared.alloc(), link) {

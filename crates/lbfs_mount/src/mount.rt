@@ -5,24 +5,26 @@ ghost use Rattle.lb_base.specs.Causes.{Rose};
 ghost use Rattle.lbfs_client.specs.Caching.{Saves, within};
 ghost use Rattle.lbfs_client.specs.Host.{Host};
 ghost use Rattle.lbfs_client.specs.declared.answer.Answer.{Answer};
+ghost use Rattle.mount_desk.specs.Course.{nothing_done};
 ghost use Rattle.lbfs_mount.specs.Cached.{EndsAll, IsBadLineAll, IsDoneAll, SavesAfter, WritesAll};
-ghost use Rattle.lbfs_mount.specs.Course.{IsSaved, known_end, nothing_done};
+ghost use Rattle.lbfs_mount.specs.Heard.{SaysAt, SaysRun};
 ghost use Rattle.lbfs_mount.specs.Mounts.{Ends, IsFaulty, IsTooLong};
+ghost use Rattle.lbfs_mount.specs.Saved.{IsSaved, known_end};
 ghost use Rattle.lbfs_mount.specs.declared.mount_error.MountError.TheVariants as errors;
 
 use crate::connecting::Dialler;
-use crate::kept_desk::KeptDesk;
 use crate::mount_error::MountError;
 use crate::noticing::{load, save};
 use crate::running::run_lines;
-use crate::shared::{ScriptTurns, Shared};
-use crate::turns::Turns;
 use lb_base::sink::Sink;
 use lb_base::source::Source;
 use lbfs_client::mounted::Mounted;
 use links::clock::Clock;
 use links::files::Files;
 use links::network::Network;
+use mount_desk::kept_desk::KeptDesk;
+use mount_desk::shared::{ScriptTurns, Shared};
+use mount_desk::turns::Turns;
 use std::alloc::Global;
 use std::sync::Wait;
 use std::thread;
@@ -48,7 +50,7 @@ fn run_shared<
 ) -> (Result<(), MountError>, S, K, Dialler<N, N::L>)
 where
     N::L: Drop + Send,
-    ensures ends { Ends (IsFaulty N.L.faults result.3.unpaired)
+    ensures ends { Ends (SaysRun D.runs D.takes) (IsFaulty N.L.faults result.3.unpaired)
         (record {
           left = S.left script;
           reads = S.faults script;
@@ -69,7 +71,7 @@ where
         thread::scope_env(),
         rt,
         move |scope| -> (Result<(), MountError>, S, K, Dialler<N, N::L>)
-            ensures ends { Ends (IsFaulty N.L.faults result.3.unpaired)
+            ensures ends { Ends (SaysRun D.runs D.takes) (IsFaulty N.L.faults result.3.unpaired)
                 (record {
                   left = S.left script;
                   reads = S.faults script;
@@ -165,7 +167,7 @@ where
     N::L: Drop + Send,
     requires { (host : Host) × (mounted ≡ nothing_done drift host) }
     ensures saved { OnOk result.0 (IfSome cache.entry (λ name. ∥ IsSaved drift keep name.now (record { files = F.files result.3; faults = F.faults result.3 }) ∥₁)) }
-    ensures ends { EndsAll (is_some cache.entry) (IsFaulty N.L.faults result.4.unpaired)
+    ensures ends { EndsAll (SaysAt F N.L.held N.L.faults) (is_some cache.entry) (IsFaulty N.L.faults result.4.unpaired)
         (record {
           left = S.left script;
           reads = S.faults script;
@@ -204,7 +206,7 @@ where
 /// of a connection, and so answers what the server asks also while no line runs.
 ///
 /// `Ok` comes once the script was read to its end; then one line was written for each of its lines
-/// that isn't skipped, in order. `ReadFault` and `WriteFault` come only where the source's, or the
+/// that isn't skipped, in order, which ran in a turn at the desk (`SaysAt`). `ReadFault` and `WriteFault` come only where the source's, or the
 /// sink's, count of faults rose, `Network` where the network's did, or where a link that was dialled has
 /// no twin, which is then given back with a fault counted on it; `BadLine` at the first line that is
 /// none of a script, and `TooLong` where the script has more bytes than `INPUT_MOST`. All that it works
@@ -240,15 +242,15 @@ pub fn mount<
 ) -> (Result<(), MountError>, S, K, F, N, Option<N::L>)
 where
     N::L: Drop + Send,
-    ensures done { OnOk result.0 (IsDoneAll (is_some cache.entry) (S.left script) (S.left result.1) (K.held sink) (K.held result.2)) }
+    ensures done { OnOk result.0 (IsDoneAll (SaysAt F N.L.held N.L.faults) (is_some cache.entry) (S.left script) (S.left result.1) (K.held sink) (K.held result.2)) }
     ensures saved { OnOk result.0 (IfSome cache.entry (λ name. ∥ IsSaved drift keep name.now (record { files = F.files result.3; faults = F.faults result.3 }) ∥₁)) }
-    ensures written { WritesAll (is_some cache.entry) (K.held sink) (K.held result.2) }
+    ensures written { WritesAll (SaysAt F N.L.held N.L.faults) (is_some cache.entry) (K.held sink) (K.held result.2) }
     ensures read { IsErrOf result.0 errors.ReadFault → Rose (S.faults script) (S.faults result.1) }
     ensures write { IsErrOf result.0 errors.WriteFault → Rose (K.faults sink) (K.faults result.2) }
     ensures network { IsErrOf result.0 errors.Network → Rose (N.faults net) (N.faults result.4) ⊎ IsFaulty N.L.faults result.5 }
     ensures read_later { S.faults script ≤ S.faults result.1 }
     ensures write_later { K.faults sink ≤ K.faults result.2 }
-    ensures bad_line { (n : ℕ) → IsErrOf result.0 (errors.BadLine n) → IsBadLineAll (is_some cache.entry) (S.left script) (S.left result.1) (K.held sink) (K.held result.2) n }
+    ensures bad_line { (n : ℕ) → IsErrOf result.0 (errors.BadLine n) → IsBadLineAll (SaysAt F N.L.held N.L.faults) (is_some cache.entry) (S.left script) (S.left result.1) (K.held sink) (K.held result.2) n }
     ensures too_long { IsErrOf result.0 errors.TooLong → IsTooLong (S.left script) (S.left result.1) }
 {
     let mounted = match Mounted::new(alloc, files, drift) {

@@ -6,15 +6,15 @@ ghost use Rattle.lbfs_client.specs.Caching.{Saves, within};
 ghost use Rattle.lbfs_client.specs.Host.{Host};
 ghost use Rattle.lbfs_client.specs.declared.answer.Answer.{Answer};
 ghost use Rattle.lbfs_mount.specs.Cached.{NoticeEnds};
-ghost use Rattle.lbfs_mount.specs.Course.{Begun, nothing_done};
+ghost use Rattle.mount_desk.specs.Course.{Begun, nothing_done};
 
-use crate::answer_line::AnswerLine;
 use crate::mount_error::MountError;
 use crate::running::write_answer;
 use lb_base::sink::Sink;
 use lbfs_client::answer::Answer;
 use lbfs_client::mounted::Mounted;
 use links::files::Files;
+use mount_desk::answer_line::AnswerLine;
 use std::alloc::Global;
 
 /// Writes an answer as a line.

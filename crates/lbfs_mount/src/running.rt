@@ -1,19 +1,15 @@
 //! The lines of a script, one by one: each is read, runs to its end, and is told before the next one
-//! is read. `specs/Mounts.antt` says what is written for them.
+//! is read. `specs/Mounts.antt` says what is written for them, `Heard.antt` that they ran.
 
-ghost use Rattle.std.specs.Prelude.{◌≡◌, ℕ, ◌≤◌, IfErr, IfOk, OnOk};
-ghost use Rattle.std.specs.Io.KnownBytes.{Appends};
+ghost use Rattle.std.specs.Prelude.{◌≡◌, ◌≤◌, IfErr, IfOk};
 ghost use Rattle.lbfs_client.specs.Lines.{line_of};
-ghost use Rattle.lbfs_mount.specs.Heard.{Ran, RunsTold};
+ghost use Rattle.mount_desk.specs.Turns.{IsAnswer};
+ghost use Rattle.lbfs_mount.specs.Heard.{Ran, SaysRun};
 ghost use Rattle.lbfs_mount.specs.Mounts.{AnswerEnds, Ends, IsFaulty, TextEnds, Unjoined, WriteEnds, read_end, written_as};
-ghost use Rattle.lbfs_mount.specs.declared.answer_line.AnswerLine.{AnswerLine};
 
-use crate::answer_line::AnswerLine;
 use crate::connecting::{Dialler, connect};
 use crate::mount_error::MountError;
 use crate::script::Script;
-use crate::shared::ScriptTurns;
-use crate::turns::Turns;
 use command_text::line_error::LineError;
 use cut_bytes::CutBytes;
 use lb_base::sink::{GiveError, Sink, give_all};
@@ -21,6 +17,9 @@ use lb_base::source::{ReadError, Source};
 use lbfs_client::line::{MountLine, is_skipped};
 use links::clock::Clock;
 use links::network::Network;
+use mount_desk::answer_line::AnswerLine;
+use mount_desk::shared::ScriptTurns;
+use mount_desk::turns::Turns;
 use shared_bytes::SharedBytes;
 use std::sync::Wait;
 use std::thread::{Scope, Threads};
@@ -49,8 +48,8 @@ fn read_end(why: ReadError) -> MountError
 
 /// Writes the line of what ended.
 pub(crate) fn write_answer<K: Sink>(sink: &mut K, answer: &AnswerLine) -> Result<(), MountError>
-    ensures ends { WriteEnds (K.held sink.old) (K.held sink.new) (K.faults sink.old) (K.faults sink.new) result }
-    ensures text { OnOk result (Appends (K.held sink.old) (K.held sink.new) answer.now.text) }
+    ensures ends { WriteEnds answer.now.text (K.held sink.old) (K.held sink.new) (K.faults sink.old) (K.faults sink.new) result }
+    ensures answer { IsAnswer answer.now.text }
     ensures later { K.faults sink.old ≤ K.faults sink.new }
 {
     let given = give_all(sink, answer.as_slice());
@@ -125,8 +124,7 @@ fn tell_line<
 ) -> Result<(), MountError>
 where
     N::L: Drop + Send + 's,
-    ensures ran { OnOk result ((answer : AnswerLine) × Ran D.runs D.takes line answer × Appends (K.held sink.old) (K.held sink.new) answer.text) }
-    ensures ends { AnswerEnds (IsFaulty N.L.faults dialler.new.unpaired) (K.held sink.old)
+    ensures ends { AnswerEnds (SaysRun D.runs D.takes) (IsFaulty N.L.faults dialler.new.unpaired) line (K.held sink.old)
         (K.held sink.new) (K.faults sink.old) (K.faults sink.new) (N.faults dialler.old.net)
         (N.faults dialler.new.net) result }
     ensures later { (N.faults dialler.old.net ≤ N.faults dialler.new.net) × (K.faults sink.old ≤ K.faults sink.new) }
@@ -159,8 +157,7 @@ fn run_text<
 ) -> Result<(), MountError>
 where
     N::L: Drop + Send + 's,
-    ensures ran { OnOk result (RunsTold D.runs D.takes (line_of text.now) (K.held sink.old) (K.held sink.new)) }
-    ensures ends { TextEnds (IsFaulty N.L.faults dialler.new.unpaired) (line_of text.now) number
+    ensures ends { TextEnds (SaysRun D.runs D.takes) (IsFaulty N.L.faults dialler.new.unpaired) (line_of text.now) number
         (K.held sink.old) (K.held sink.new) (K.faults sink.old) (K.faults sink.new)
         (N.faults dialler.old.net) (N.faults dialler.new.net) result }
     ensures later { (N.faults dialler.old.net ≤ N.faults dialler.new.net) × (K.faults sink.old ≤ K.faults sink.new) }
@@ -197,7 +194,7 @@ fn run_on<
 ) -> Result<(), MountError>
 where
     N::L: Drop + Send + 's,
-    ensures ends { Ends (IsFaulty N.L.faults dialler.new.unpaired)
+    ensures ends { Ends (SaysRun D.runs D.takes) (IsFaulty N.L.faults dialler.new.unpaired)
         (record {
           left = S.left script.old;
           reads = S.faults script.old;
@@ -267,7 +264,7 @@ pub(crate) fn run_lines<
 ) -> Result<(), MountError>
 where
     N::L: Drop + Send + 's,
-    ensures ends { Ends (IsFaulty N.L.faults dialler.new.unpaired)
+    ensures ends { Ends (SaysRun D.runs D.takes) (IsFaulty N.L.faults dialler.new.unpaired)
         (record {
           left = S.left script.old;
           reads = S.faults script.old;

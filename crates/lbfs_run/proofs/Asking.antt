@@ -7,8 +7,9 @@ use Rattle.store.specs.declared.record.Kept.{Kept}
 use Rattle.exit_status.specs.declared.status.Status.{Status}
 use Rattle.exit_status.specs.declared.status.Status.TheVariants as status
 use Rattle.lbfs_client.specs.Host.{Host}
+use Rattle.lbfs_client.specs.declared.line.MountLine.{MountLine}
 use Rattle.lbfs_mount.specs.Cached.{IsNotice, WritesAll}
-use Rattle.lbfs_mount.specs.Course.{IsSaved}
+use Rattle.lbfs_mount.specs.Saved.{IsSaved}
 use Rattle.program_words.specs.declared.asked.Command.{Command}
 use Rattle.program_words.specs.declared.asked.Asked.{Asked}
 use Rattle.program_words.specs.declared.asked.Asked.TheVariants as ask
@@ -124,5 +125,5 @@ none_told : (cached : Bool) → IsNotice cached []
 none_told true = inl refl
 none_told false = refl
 
-pub none_written : (cached : Bool) (held : Option (List ℕ)) → WritesAll cached held held
-none_written cached held = WritesAll.notice ([], none_told cached, front held [])
+pub none_written : (Says : MountLine → List ℕ → Type 0) (cached : Bool) (held : Option (List ℕ)) → WritesAll Says cached held held
+none_written Says cached held = WritesAll.notice ([], none_told cached, front held [])

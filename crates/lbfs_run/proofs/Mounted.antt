@@ -6,41 +6,43 @@ use Rattle.std.specs.Option.{option_copied}
 use Rattle.lb_base.specs.Causes.{Rose}
 use Rattle.exit_status.specs.declared.status.Status.{Status}
 use Rattle.exit_status.specs.declared.status.Status.TheVariants as status
+use Rattle.lbfs_client.specs.declared.line.MountLine.{MountLine}
 use Rattle.lbfs_mount.specs.Cached.{IsBadLineAll, IsDoneAll, WritesAll}
 use Rattle.lbfs_client.specs.Host.{Host}
-use Rattle.lbfs_mount.specs.Course.{IsSaved}
+use Rattle.lbfs_mount.specs.Saved.{IsSaved}
 use Rattle.lbfs_mount.specs.Mounts.{IsTooLong}
 use Rattle.lbfs_mount.specs.declared.mount_error.MountError.{MountError}
 use Rattle.lbfs_mount.specs.declared.mount_error.MountError.TheVariants as errors
 use Rattle.lbfs_run.specs.Mounting.{MountCause, mount_output}
 use Rattle.lbfs_run.specs.Telling.{Tells}
 
-cause : (cached : Bool) (left left' held held' : Option (List ℕ)) (read read' write write' net net' : ℕ) (link_fails : Type 0) (ended : Result Unit MountError)
-    → OnOk ended (IsDoneAll cached left left' held held') → WritesAll cached held held'
-    → (IsErrOf ended errors.ReadFault → Rose read read') → (IsErrOf ended errors.WriteFault → Rose write write')
-    → (IsErrOf ended errors.Network → Rose net net' ⊎ link_fails)
-    → ((n : ℕ) → IsErrOf ended (errors.BadLine n) → IsBadLineAll cached left left' held held' n)
-    → (IsErrOf ended errors.TooLong → IsTooLong left left')
-    → MountCause cached left left' held held' read read' write write' net net' link_fails ended
-cause cached left left' held held' read read' write write' net net' link_fails (Ok u) done writes reads wrote network bad long = done
-cause cached left left' held held' read read' write write' net net' link_fails (Err errors.ReadFault) done writes reads wrote network bad long = (writes, reads refl)
-cause cached left left' held held' read read' write write' net net' link_fails (Err errors.WriteFault) done writes reads wrote network bad long = (writes, wrote refl)
-cause cached left left' held held' read read' write write' net net' link_fails (Err (errors.BadLine n)) done writes reads wrote network bad long = bad n refl
-cause cached left left' held held' read read' write write' net net' link_fails (Err errors.Network) done writes reads wrote network bad long = (writes, network refl)
-cause cached left left' held held' read read' write write' net net' link_fails (Err errors.Memory) done writes reads wrote network bad long = writes
-cause cached left left' held held' read read' write write' net net' link_fails (Err errors.TooLong) done writes reads wrote network bad long = (writes, long refl)
+module _ (Says : MountLine → List ℕ → Type 0) where
+  cause : (cached : Bool) (left left' held held' : Option (List ℕ)) (read read' write write' net net' : ℕ) (link_fails : Type 0) (ended : Result Unit MountError)
+      → OnOk ended (IsDoneAll Says cached left left' held held') → WritesAll Says cached held held'
+      → (IsErrOf ended errors.ReadFault → Rose read read') → (IsErrOf ended errors.WriteFault → Rose write write')
+      → (IsErrOf ended errors.Network → Rose net net' ⊎ link_fails)
+      → ((n : ℕ) → IsErrOf ended (errors.BadLine n) → IsBadLineAll Says cached left left' held held' n)
+      → (IsErrOf ended errors.TooLong → IsTooLong left left')
+      → MountCause Says cached left left' held held' read read' write write' net net' link_fails ended
+  cause cached left left' held held' read read' write write' net net' link_fails (Ok u) done writes reads wrote network bad long = done
+  cause cached left left' held held' read read' write write' net net' link_fails (Err errors.ReadFault) done writes reads wrote network bad long = (writes, reads refl)
+  cause cached left left' held held' read read' write write' net net' link_fails (Err errors.WriteFault) done writes reads wrote network bad long = (writes, wrote refl)
+  cause cached left left' held held' read read' write write' net net' link_fails (Err (errors.BadLine n)) done writes reads wrote network bad long = bad n refl
+  cause cached left left' held held' read read' write write' net net' link_fails (Err errors.Network) done writes reads wrote network bad long = (writes, network refl)
+  cause cached left left' held held' read read' write write' net net' link_fails (Err errors.Memory) done writes reads wrote network bad long = writes
+  cause cached left left' held held' read read' write write' net net' link_fails (Err errors.TooLong) done writes reads wrote network bad long = (writes, long refl)
 
--- so too where the cache file's name was passed on
-pub caused : (was cached : Bool) (left left' held held' : Option (List ℕ)) (read read' write write' net net' : ℕ) (link_fails : Type 0) (ended : Result Unit MountError) → was ≡ cached
-    → OnOk ended (IsDoneAll was left left' held held') → WritesAll was held held'
-    → (IsErrOf ended errors.ReadFault → Rose read read') → (IsErrOf ended errors.WriteFault → Rose write write')
-    → (IsErrOf ended errors.Network → Rose net net' ⊎ link_fails)
-    → ((n : ℕ) → IsErrOf ended (errors.BadLine n) → IsBadLineAll was left left' held held' n)
-    → (IsErrOf ended errors.TooLong → IsTooLong left left')
-    → MountCause cached left left' held held' read read' write write' net net' link_fails ended
-caused was cached left left' held held' read read' write write' net net' link_fails ended same done writes reads wrote network bad long =
-    subst (λ (b : Bool). MountCause b left left' held held' read read' write write' net net' link_fails ended) same
-    (cause was left left' held held' read read' write write' net net' link_fails ended done writes reads wrote network bad long)
+  -- so too where the cache file's name was passed on
+  pub caused : (was cached : Bool) (left left' held held' : Option (List ℕ)) (read read' write write' net net' : ℕ) (link_fails : Type 0) (ended : Result Unit MountError) → was ≡ cached
+      → OnOk ended (IsDoneAll Says was left left' held held') → WritesAll Says was held held'
+      → (IsErrOf ended errors.ReadFault → Rose read read') → (IsErrOf ended errors.WriteFault → Rose write write')
+      → (IsErrOf ended errors.Network → Rose net net' ⊎ link_fails)
+      → ((n : ℕ) → IsErrOf ended (errors.BadLine n) → IsBadLineAll Says was left left' held held' n)
+      → (IsErrOf ended errors.TooLong → IsTooLong left left')
+      → MountCause Says cached left left' held held' read read' write write' net net' link_fails ended
+  caused was cached left left' held held' read read' write write' net net' link_fails ended same done writes reads wrote network bad long =
+      subst (λ (b : Bool). MountCause Says b left left' held held' read read' write write' net net' link_fails ended) same
+      (cause was left left' held held' read read' write write' net net' link_fails ended done writes reads wrote network bad long)
 
 -- ---- by the status
 

@@ -5,7 +5,8 @@ ghost use Rattle.std.specs.Prelude.{◌≡◌, ◌≤◌, ◌⊎◌, [], IfOk, I
 ghost use Rattle.std.specs.Option.{option_copied};
 ghost use Rattle.lb_base.specs.Causes.{Rose};
 ghost use Rattle.exit_status.specs.declared.status.Status.TheVariants as status;
-ghost use Rattle.lbfs_mount.specs.Course.{IsSaved};
+ghost use Rattle.lbfs_mount.specs.Saved.{IsSaved};
+ghost use Rattle.lbfs_mount.specs.Heard.{SaysAt};
 ghost use Rattle.lbfs_mount.specs.Mounts.{IsFaulty};
 ghost use Rattle.lbfs_mount.specs.declared.mount_error.MountError.TheVariants as errors;
 ghost use Rattle.lbfs_run.specs.Mounting.{MountEnds, mount_output};
@@ -104,7 +105,7 @@ pub(crate) fn run_mount<
 ) -> (Status, Outside<S, K, D, F, N, C, R>, Option<N::L>)
 where
     N::L: Drop + Send,
-    ensures mounts { MountEnds (is_some options.cache) (S.left out.source)
+    ensures mounts { MountEnds (SaysAt F N.L.held N.L.faults) (is_some options.cache) (S.left out.source)
         (S.left result.1.source) (K.held out.sink) (K.held result.1.sink) (S.faults out.source)
         (S.faults result.1.source) (K.faults out.sink) (N.faults out.network)
         (N.faults result.1.network) (IsFaulty N.L.faults result.2) result.0 }

@@ -18,7 +18,8 @@ ghost use Rattle.program_words.specs.declared.asked.Asked.TheVariants as ask;
 ghost use Rattle.exit_status.specs.declared.status.Status.TheVariants as status;
 ghost use Rattle.lbfs_run.specs.Output.{IsWhole};
 ghost use Rattle.lbfs_run.specs.PlainEnds.{IsAnswered, IsAnsweredFrom, IsBegun, IsBegunFrom, IsBroken, IsBrokenFrom, IsPlainEnd, IsReplayed, IsRun};
-ghost use Rattle.lbfs_mount.specs.Course.{IsSaved};
+ghost use Rattle.lbfs_mount.specs.Saved.{IsSaved};
+ghost use Rattle.lbfs_mount.specs.Heard.{SaysAt};
 ghost use Rattle.lbfs_mount.specs.Mounts.{IsFaulty};
 ghost use Rattle.lbfs_run.specs.Checking.{CheckEnds};
 ghost use Rattle.lbfs_run.specs.Ends.{StoreFails, takes_input};
@@ -153,7 +154,7 @@ where
         (D.there out.store) (K.held out.sink) (K.held result.1.sink) result.0 }
     ensures unfiled { (o : ServeOptions) → asked ≡ Some (ask.Serve o) → result.1.files ≡ out.files }
     ensures mounts { (o : MountOptions) → asked ≡ Some (ask.Mount o)
-        → MountEnds (is_some o.cache) (S.left out.source) (S.left result.1.source)
+        → MountEnds (SaysAt F N.L.held N.L.faults) (is_some o.cache) (S.left out.source) (S.left result.1.source)
         (K.held out.sink) (K.held result.1.sink) (S.faults out.source)
         (S.faults result.1.source) (K.faults out.sink) (N.faults out.network)
         (N.faults result.1.network) (IsFaulty N.L.faults result.2) result.0 }
@@ -276,7 +277,7 @@ where
     ensures unfiled { (o : ServeOptions) → asked_of (words_as_bytes words.now) ≡ Some (ask.Serve o) → result.1.files ≡ out.files }
     ensures mounts { (o : MountOptions)
         → asked_of (words_as_bytes words.now) ≡ Some (ask.Mount o)
-        → MountEnds (is_some o.cache) (S.left out.source) (S.left result.1.source)
+        → MountEnds (SaysAt F N.L.held N.L.faults) (is_some o.cache) (S.left out.source) (S.left result.1.source)
         (K.held out.sink) (K.held result.1.sink) (S.faults out.source)
         (S.faults result.1.source) (K.faults out.sink) (N.faults out.network)
         (N.faults result.1.network) (IsFaulty N.L.faults result.2) result.0 }

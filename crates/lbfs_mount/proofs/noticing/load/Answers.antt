@@ -1,7 +1,7 @@
 use Rattle.std.proofs.Common.{subst}
 use Rattle.lbfs_client.specs.Caching.{Loads}
 use Rattle.lbfs_client.specs.Mounting.{Mount}
-use Rattle.lbfs_mount.specs.Course.{Begun}
+use Rattle.mount_desk.specs.Course.{Begun}
 use Rattle.lbfs_mount.proofs.noticing.load.Goals as goal
 
 pub returns-in-Some-clause-begun : goal.returns-in-Some-clause-begun

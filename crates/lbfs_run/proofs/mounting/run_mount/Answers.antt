@@ -7,7 +7,7 @@ returns-clause-mounts g c = (
   c.mount-ended.result.0,
   g.K.Sink.held c.mount-ended.result.2,
   g.K.Sink.faults c.mount-ended.result.2,
-  caused _ _ _ _ _ _ _ _ _ _ _ _ _ c.mount-ended.result.0 c.cache_name.ensures.some c.mount-ended.ensures.done c.mount-ended.ensures.written c.mount-ended.ensures.read c.mount-ended.ensures.write c.mount-ended.ensures.network c.mount-ended.ensures.bad_line c.mount-ended.ensures.too_long,
+  caused _ _ _ _ _ _ _ _ _ _ _ _ _ _ c.mount-ended.result.0 c.cache_name.ensures.some c.mount-ended.ensures.done c.mount-ended.ensures.written c.mount-ended.ensures.read c.mount-ended.ensures.write c.mount-ended.ensures.network c.mount-ended.ensures.bad_line c.mount-ended.ensures.too_long,
   c.tell_mounted-status.ensures.told,
 )
 

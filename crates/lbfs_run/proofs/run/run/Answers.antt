@@ -144,7 +144,7 @@ returns-in-Err-clause-serves g c =
 
 pub returns-in-Err-clause-mounts : goal.returns-in-Err-clause-mounts
 returns-in-Err-clause-mounts g c =
-    λ o e. (Err mount_errors.Memory, (g.K.Sink.held c.args.out.sink), g.K.Sink.faults c.args.out.sink, none_written (is_some o.cache) (g.K.Sink.held c.args.out.sink), inl (refl, nothing (g.K.Sink.held c.args.out.sink)))
+    λ o e. (Err mount_errors.Memory, (g.K.Sink.held c.args.out.sink), g.K.Sink.faults c.args.out.sink, none_written _ (is_some o.cache) (g.K.Sink.held c.args.out.sink), inl (refl, nothing (g.K.Sink.held c.args.out.sink)))
 
 pub returns-in-Ok-clause-checks : goal.returns-in-Ok-clause-checks
 returns-in-Ok-clause-checks g c =

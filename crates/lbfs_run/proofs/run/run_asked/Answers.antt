@@ -2,6 +2,7 @@ use Rattle.std.proofs.Common.{◌≡◌, Some, None, refl, sym, ap, ◌∙◌, i
 use Rattle.program_words.specs.declared.asked.Command.{Command}
 use Rattle.program_words.specs.declared.asked.Asked.TheVariants as ask
 use Rattle.program_words.specs.Words.{command_in, is_alone}
+use Rattle.lbfs_mount.specs.Heard.{SaysAt}
 use Rattle.lbfs_mount.specs.Mounts.{IsFaulty}
 use Rattle.lbfs_run.specs.Ends.{takes_input}
 use Rattle.lbfs_run.specs.Mounting.{MountEnds}
@@ -328,7 +329,7 @@ returns-in-Some-Mount-clause-unfiled g c =
 pub returns-in-Some-Mount-clause-mounts : goal.returns-in-Some-Mount-clause-mounts
 returns-in-Some-Mount-clause-mounts g c =
     let is : c.args.asked ≡ Some (ask.Mount c.in-Some-Mount.options) = c.in-Some-Mount.is ∙ ap Some c.in-Some-Mount.field-0-is in
-    λ o e. mounts_by (λ b. MountEnds b (g.S.Source.left c.args.out.source) (g.S.Source.left c.run_mount.result.1.source) (g.K.Sink.held c.args.out.sink) (g.K.Sink.held c.run_mount.result.1.sink) (g.S.Source.faults c.args.out.source) (g.S.Source.faults c.run_mount.result.1.source) (g.K.Sink.faults c.args.out.sink) (g.N.Network.faults c.args.out.network) (g.N.Network.faults c.run_mount.result.1.network) (IsFaulty g.N.L.Link.faults c.run_mount.result.2) c.run_mount.result.0)
+    λ o e. mounts_by (λ b. MountEnds (SaysAt g.row.F.Denot g.N.L.Link.held g.N.L.Link.faults) b (g.S.Source.left c.args.out.source) (g.S.Source.left c.run_mount.result.1.source) (g.K.Sink.held c.args.out.sink) (g.K.Sink.held c.run_mount.result.1.sink) (g.S.Source.faults c.args.out.source) (g.S.Source.faults c.run_mount.result.1.source) (g.K.Sink.faults c.args.out.sink) (g.N.Network.faults c.args.out.network) (g.N.Network.faults c.run_mount.result.1.network) (IsFaulty g.N.L.Link.faults c.run_mount.result.2) c.run_mount.result.0)
     c.in-Some-Mount.options o (same_mount c.args.asked c.in-Some-Mount.options o is e) c.run_mount.ensures.mounts
 
 pub returns-in-Some-Mount-clause-saved : goal.returns-in-Some-Mount-clause-saved

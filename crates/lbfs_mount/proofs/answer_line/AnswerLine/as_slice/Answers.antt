@@ -1,6 +1,0 @@
-use Rattle.std.proofs.Common.{List, ℕ, subst, sym}
-use Rattle.lbfs_mount.specs.Mounts.{IsAnswer}
-use Rattle.lbfs_mount.proofs.answer_line.AnswerLine.as_slice.Goals as goal
-
-pub returns-clause-answer : goal.returns-clause-answer
-returns-clause-answer c = subst (λ (text : List ℕ). IsAnswer text) (sym c.as_slice.ensures) c.args.self.now.told

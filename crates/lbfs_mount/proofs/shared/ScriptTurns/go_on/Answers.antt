@@ -1,4 +1,0 @@
-use Rattle.lbfs_mount.proofs.shared.ScriptTurns.go_on.Goals as goal
-
-pub returns : goal.returns
-returns g c = (_, _, c.go_on.ensures)

@@ -1,4 +1,0 @@
-use Rattle.lbfs_mount.proofs.shared.ScriptTurns.join.Goals as goal
-
-pub returns : goal.returns
-returns g c = (_, _, c.join.ensures)

@@ -1,4 +1,0 @@
-use Rattle.lbfs_mount.proofs.shared.ScriptTurns.leave.Goals as goal
-
-pub returns : goal.returns
-returns g c = (_, _, c.leave.ensures)

@@ -1,0 +1,27 @@
+-- How a mount ends behind its script, and what is written then of what its client keeps.
+use Rattle.std.specs.Prelude.{◌≡◌, ℕ, List, Option, Result, Ok, Err, Bool, false}
+use Rattle.lbfs_client.specs.Bounded.{IsBounded, IsCache}
+use Rattle.lbfs_client.specs.Caching.{Saves, within}
+use Rattle.lbfs_client.specs.Host.{Host}
+use Rattle.lbfs_client.specs.Mounting.{Mount}
+use Rattle.lbfs_client.specs.declared.answer.Answer.{Answer}
+use Rattle.mount_desk.specs.Course.{Course}
+use Rattle.lbfs_mount.specs.declared.mount_error.MountError.{MountError}
+use Rattle.lbfs_mount.specs.declared.mount_error.MountError.TheVariants as errors
+
+-- memory ran out in a turn, and so not all is known of the client: that is then the end of the mount
+abbrev pub known_end : Result Unit MountError → (known : Bool) → Result Unit MountError
+known_end (Ok u) false = Err errors.Memory
+known_end ended known = ended
+
+-- a cache file was written, or it is told why not: of what a client keeps behind its course, within so many bytes
+pub record IsSaved (drift keep : ℕ) (name : List ℕ) (host : Host) : Type 0 where
+  pub listed : ℕ
+  pub client : Mount
+  pub course : Course drift keep listed client
+  -- what is written is of no more than that, or of what is in use
+  pub bound : IsCache client.client.cache → IsBounded keep (within keep client).client
+  pub told : Option Answer
+  pub new : Mount
+  pub saves : Saves (within keep client) name told new
+  pub host_is : new.host ≡ host

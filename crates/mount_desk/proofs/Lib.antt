@@ -1,0 +1,4 @@
+mod Courses
+mod Hintings
+mod Outlets
+mod Telling

@@ -1,0 +1,4 @@
+pub mod Calls
+pub mod Course
+pub mod Outlet
+pub mod Turns
