@@ -3,11 +3,6 @@
 
 ghost use Rattle.program_words.specs.Words.{IsFew, command_in};
 
-use crate::outside::{files, store};
-use crate::port::{Port, PortClock, PortLink, PortNet, PortRest};
-use crate::screen::{Screen, Typist};
-use crate::trial::Trial;
-use crate::tried_store::TriedStore;
 use crate::words::asked_of;
 use exit_status::status::Status;
 use lbfs_run::outside::Outside;
@@ -15,10 +10,16 @@ use lbfs_run::run::run_asked;
 use links::mem_files::MemFiles;
 use program_words::asked::Asked;
 use row_text::out::Out;
-use std::alloc::Global;
+use std::alloc::{AllocError, Global};
 use std::sync::atomic::AtomicU64;
 use std::sync::{Arc, Wait};
 use std::thread::Threads;
+use trial_outside::left;
+use trial_outside::outside::{files, store};
+use trial_outside::port::{Port, PortClock, PortEnd, PortLink, PortNet, PortRest, end_of};
+use trial_outside::screen::{Screen, Typist};
+use trial_outside::trial::Trial;
+use trial_outside::tried_store::TriedStore;
 
 /// The outside of each run.
 type Whole<'a, R> = Outside<
@@ -43,24 +44,6 @@ fn run_whole<'a, R: Threads + Wait + Sync + Send + Copy + Drop>(
     run_asked(rt, alloc, asked, whole)
 }
 
-/// Numbers, one behind the other.
-fn put_counts(counts: &[u64], out: &mut Out) {
-    for count in counts.iter() {
-        out.number(*count);
-    }
-}
-
-/// The files of the host.
-fn put_files(files: &MemFiles, out: &mut Out) {
-    for file in files.files().iter() {
-        out.text("file ");
-        out.letters(file.name.as_slice());
-        out.text(" ");
-        out.letters(file.bytes.as_slice());
-        out.text("\n");
-    }
-}
-
 /// How a run ended, and what is left of its outside.
 fn put_end<R: Wait + Copy>(
     trial: &Trial<'_>,
@@ -69,66 +52,59 @@ fn put_end<R: Wait + Copy>(
     unpaired: &Option<PortLink<R>>,
     out: &mut Out,
 ) {
-    let is_mount = trial.words.starts_with("mount");
     out.text(": status");
     out.number(u64::from(status.code()));
-    if is_mount {
-        out.text(" lines");
-        put_counts(whole.source.seen(), out);
-    }
-    if trial.words.starts_with("serve") {
-        out.text(" faults");
-        out.number(whole.network.faults());
-        out.text(" records");
-        out.number(whole.store.len() as u64);
-        if trial.setting("counted").is_some() {
-            out.text(" settles");
-            out.number(whole.store.settles());
-        }
-    }
-    out.text("\n");
-    out.letters(whole.sink.text());
-    if let Some(link) = unpaired {
-        out.text("link without a twin, faults");
-        out.number(link.faults());
-        out.text("\n");
-    }
-    if is_mount {
-        put_files(&whole.files, out);
-    }
+    left::put_seen(trial, &whole.source, out);
+    left::put_served(trial, &whole.network, &whole.store, out);
+    left::put_written(&whole.sink, out);
+    left::put_unpaired(unpaired, out);
+    left::put_files(trial, &whole.files, out)
+}
+
+/// The outside of an end, over these bytes of input.
+fn whole_of<'a, R: Wait + Copy>(
+    rt: &R,
+    alloc: Global,
+    port: &Arc<Port>,
+    trial: &Trial<'_>,
+    input: &'a [u8],
+    answers: &'a AtomicU64,
+    out: &mut Out,
+) -> Result<Whole<'a, R>, AllocError> {
+    let store = store(alloc, trial, out)?;
+    let PortEnd {
+        network,
+        clock,
+        rest,
+    } = end_of(*rt, port, trial)?;
+    Ok(Outside {
+        source: Typist::new(alloc, trial, input, answers),
+        sink: Screen::new(alloc, trial, answers),
+        store,
+        files: files(alloc, trial, out),
+        network,
+        clock,
+        rest,
+    })
 }
 
 /// Runs an end's words over these bytes of input, and tells how it ended.
 fn put_run<'a, R: Threads + Wait + Sync + Send + Copy + Drop>(
     rt: &R,
     alloc: Global,
-    ports: (Arc<Port>, Arc<Port>, Arc<Port>),
+    port: &Arc<Port>,
     trial: &Trial<'_>,
     input: &'a [u8],
     answers: &'a AtomicU64,
     out: &mut Out,
-) {
-    let (lines, clocks, rests) = ports;
-    let Ok(store) = store(alloc, trial, out) else {
-        return out.lack();
-    };
+) -> Result<(), AllocError> {
+    let whole = whole_of(rt, alloc, port, trial, input, answers, out)?;
     let asked = asked_of(alloc, trial.words, out);
-    let whole = Outside {
-        source: Typist::new(alloc, trial, input, answers),
-        sink: Screen::new(alloc, trial, answers),
-        store,
-        files: files(alloc, trial, out),
-        network: PortNet::new(*rt, lines, trial),
-        clock: PortClock { port: clocks },
-        rest: PortRest {
-            rt: *rt,
-            port: rests,
-        },
-    };
     let (status, whole, unpaired) = run_whole(rt, alloc, asked, whole);
     put_end(trial, status, &whole, &unpaired, out);
     drop(whole);
-    drop(unpaired)
+    drop(unpaired);
+    Ok(())
 }
 
 /// Runs a trial's end, shuts the port behind it, and tells how it ended.
@@ -141,24 +117,8 @@ pub fn run_end<R: Threads + Wait + Sync + Send + Copy + Drop>(
     let mut out = Out::new(alloc);
     let input = trial.input(alloc, &mut out);
     let answers = AtomicU64::new(0);
-    let lines: Result<Arc<Port>, _> = port.clone();
-    let clocks: Result<Arc<Port>, _> = port.clone();
-    let rests: Result<Arc<Port>, _> = port.clone();
-    match (lines, clocks, rests) {
-        (Ok(lines), Ok(clocks), Ok(rests)) => {
-            let ports = (lines, clocks, rests);
-            put_run(
-                rt,
-                alloc,
-                ports,
-                trial,
-                input.as_slice(),
-                &answers,
-                &mut out,
-            )
-        }
-        _ => out.lack(),
-    }
+    let run = put_run(rt, alloc, port, trial, input.as_slice(), &answers, &mut out);
+    out.note(run);
     port.shut(rt);
     out
 }

@@ -1,31 +1,12 @@
-//! The trials that the gate runs: what comes of lists, sources and sinks that fail, and streams that
-//! are interrupted, and of turns at a post, which no row of data can show; and of each row of `data/`. What is printed is
-//! compared with the file `stdout`.
+//! The trials that the gate runs: what comes of what no row of data can show (`rowless`), and of each row of `data/`.
+//! What is printed is compared with the file `stdout`.
 #![tactic(auto)]
 
 mod end;
-mod gate;
-mod hashing;
-mod leases;
-mod line;
-mod lists;
-mod outside;
-mod port;
 mod runs;
-mod screen;
-mod sessions;
-mod sinks;
-mod sources;
-mod streams;
-mod tally;
-mod trial;
-mod tried_store;
-mod turns;
-mod wanted;
 mod words;
 
 use row_text::out::Out;
-use std::alloc::{AllocError, Global};
 use std::io::Print;
 use std::rt::Clock;
 use std::sync::Wait;
@@ -39,8 +20,10 @@ enum Kind {
     Calls,
     /// The parts of traces.
     Traces,
-    /// The program over an outside in memory, and a server alone.
+    /// The program over an outside in memory.
     Runs,
+    /// A server alone.
+    Sessions,
 }
 
 /// The files of rows.
@@ -63,56 +46,23 @@ const FILES: [(Kind, &str); 19] = [
     (Kind::Traces, "cuts"),
     (Kind::Traces, "histories"),
     (Kind::Runs, "runs"),
-    (Kind::Runs, "sessions"),
+    (Kind::Sessions, "sessions"),
 ];
 
-/// What comes of the trials without a row.
-fn plain_text<R: Threads + Wait + Clock + Sync>(
-    rt: &R,
-    alloc: Global,
-) -> Result<String, AllocError> {
-    let mut out = Out::new(alloc);
-    lists::put(alloc, &mut out);
-    for limit in [6usize, 5, 4, 0] {
-        sources::put_read(alloc, 2, limit, &[], &mut out);
-    }
-    sources::put_read(alloc, 9, 9, &[0], &mut out);
-    sources::put_takes(alloc, &mut out);
-    sources::put_sure(alloc, &mut out);
-    sinks::put(alloc, &mut out);
-    for interrupts in [3u32, 300] {
-        streams::put_idle(interrupts, &mut out);
-    }
-    streams::put_memory(alloc, &mut out);
-    turns::put(rt, alloc, &mut out);
-    out.done()
+/// Prints what was put, where it is whole.
+fn print_out<R: AllocGlobal + Print>(rt: &R, out: Out) -> io::Result<()> {
+    let text = out.done()?;
+    print!(rt; "{text}")
 }
 
 /// Prints what comes of the trials without a row.
 fn print_plain<R: Threads + Wait + Clock + Sync + AllocGlobal + Print>(rt: &R) -> io::Result<()> {
-    let out = plain_text(rt, rt.alloc())?;
-    print!(rt; "{out}")
+    let mut out = Out::new(rt.alloc());
+    rowless::all::put(rt, rt.alloc(), &mut out);
+    print_out(rt, out)
 }
 
-/// What comes of the rows of a file, which may name these records.
-fn text_of<R: Threads + Wait + Clock + Sync + Send + Copy + Drop>(
-    rt: &R,
-    alloc: Global,
-    records: &str,
-    kind: Kind,
-    file: &str,
-    text: &str,
-) -> Result<String, AllocError> {
-    let mut out = Out::new(alloc);
-    match kind {
-        Kind::Calls => rows::files::put_rows(alloc, file, text, &mut out),
-        Kind::Traces => rows_trace::files::put_rows(alloc, file, text, &mut out),
-        Kind::Runs => runs::put_rows(rt, alloc, records, file, text, &mut out),
-    }
-    out.done()
-}
-
-/// Prints what comes of the rows of a file.
+/// Prints what comes of the rows of a file, which may name these records.
 fn print_file<R: Threads + Wait + Clock + Sync + Send + Copy + Drop + AllocGlobal + Print>(
     rt: &R,
     records: &str,
@@ -120,8 +70,18 @@ fn print_file<R: Threads + Wait + Clock + Sync + Send + Copy + Drop + AllocGloba
     file: &str,
     text: &str,
 ) -> io::Result<()> {
-    let out = text_of(rt, rt.alloc(), records, kind, file, text)?;
-    print!(rt; "== {file}\n{out}")
+    let alloc = rt.alloc();
+    let mut out = Out::new(alloc);
+    out.text("== ");
+    out.text(file);
+    out.text("\n");
+    match kind {
+        Kind::Calls => rows::files::put_rows(alloc, file, text, &mut out),
+        Kind::Traces => rows_trace::files::put_rows(alloc, file, text, &mut out),
+        Kind::Runs => runs::put_rows(rt, alloc, records, text, &mut out),
+        Kind::Sessions => rows_session::rows::put_rows(rt, alloc, records, text, &mut out),
+    }
+    print_out(rt, out)
 }
 
 fn main(rt: HostRuntime) -> io::Result<()> {

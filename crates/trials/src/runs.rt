@@ -1,16 +1,14 @@
-//! Rows of runs and of sessions, and what comes of them.
+//! Rows of runs, and what comes of them.
 
 use crate::end::run_end;
-use crate::port::Port;
-use crate::trial::{Trial, split};
-use crate::{leases, sessions};
 use row_text::out::Out;
 use row_text::text::is_remark;
 use std::alloc::Global;
-use std::rt::Clock;
 use std::sync::{Arc, Wait};
 use std::thread;
 use std::thread::Threads;
+use trial_outside::port::Port;
+use trial_outside::trial::{Trial, split};
 
 /// Runs one end, and tells how it ended and, where it is asked for, what its lines were given.
 fn put_alone<R: Threads + Wait + Sync + Send + Copy + Drop>(
@@ -89,51 +87,17 @@ fn put_run<R: Threads + Wait + Sync + Send + Copy + Drop>(
     }
 }
 
-/// `TITLE | KIND | LINES | SETTINGS`: what comes of a session, or of several.
-fn put_session<R: Threads + Wait + Clock + Sync + Send + Copy + Drop>(
+/// What comes of each row, which may name these records.
+pub fn put_rows<R: Threads + Wait + Sync + Send + Copy + Drop>(
     rt: &R,
     alloc: Global,
     records: &str,
-    row: &str,
-    out: &mut Out,
-) {
-    let (title, rest) = split(row, '|');
-    let (kind, rest) = split(rest, '|');
-    let (links, settings) = split(rest, '|');
-    let trial = Trial {
-        words: "",
-        settings,
-        links,
-        input: "",
-        records,
-    };
-    out.text(title);
-    out.text(":");
-    match Port::new(alloc, &trial, true, out) {
-        Ok(port) if kind == "leases" => leases::put(rt, alloc, &port, &trial, out),
-        Ok(port) => sessions::put(rt, alloc, &port, kind, out),
-        Err(_) => out.lack(),
-    }
-}
-
-/// What comes of each row of a file, `runs` or `sessions`.
-pub fn put_rows<R: Threads + Wait + Clock + Sync + Send + Copy + Drop>(
-    rt: &R,
-    alloc: Global,
-    records: &str,
-    file: &str,
     rows: &str,
     out: &mut Out,
 ) {
-    let is_run = file == "runs";
     for row in rows.lines() {
-        if is_remark(row) {
-            continue;
-        }
-        if is_run {
-            put_run(rt, alloc, records, row, out)
-        } else {
-            put_session(rt, alloc, records, row, out)
+        if !is_remark(row) {
+            put_run(rt, alloc, records, row, out);
         }
     }
 }

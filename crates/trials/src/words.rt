@@ -3,7 +3,6 @@
 
 ghost use Rattle.program_words.specs.Words.{IsFew, command_in};
 
-use crate::trial::split;
 use limits::SESSIONS_EVER_MOST;
 use program_words::asked::{
     Asked, CheckOptions, Command, InputCommand, KEEP, MountOptions, PORT_MOST, ServeOptions,
@@ -12,6 +11,7 @@ use program_words::asked::{
 use row_text::out::Out;
 use row_text::text::number;
 use std::alloc::Global;
+use trial_outside::trial::split;
 
 /// The word behind an option; none where the option isn't there.
 fn behind<'x>(words: &'x str, option: &str) -> &'x str {

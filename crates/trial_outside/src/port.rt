@@ -24,7 +24,6 @@ use std::sync::atomic::{AtomicU64, Ordering};
 use std::sync::{Arc, Condvar, Mutex, MutexGuard, Wait};
 
 /// A port with its lines, which are there from the beginning, under a lock.
-#[derive(Drop)]
 pub struct Port {
     lines: Mutex<Vec<Line>>,
     /// Something came, or a line was shut.
@@ -37,6 +36,22 @@ pub struct Port {
     rests: AtomicU64,
     /// Whether the clock stands at 0.
     is_stopped: bool,
+}
+
+// By hand, as all here: docs/proving/dropping.md.
+impl Drop for Port {
+    fn drop(self) {
+        let Port {
+            lines,
+            news: _,
+            is_silent: _,
+            wanted,
+            rests: _,
+            is_stopped: _,
+        } = self;
+        drop(lines);
+        drop(wanted)
+    }
 }
 
 /// What the rests of a trial wait for, `rests=LINE@RECORDS,LINE@RECORDS`.
@@ -135,7 +150,7 @@ impl Port {
     }
 
     /// How many rests there were.
-    pub fn rests(&self) -> u64 {
+    fn rests(&self) -> u64 {
         self.rests.load(Ordering::SeqCst)
     }
 
@@ -155,10 +170,24 @@ impl Port {
 }
 
 /// Rests at a port.
-#[derive(Drop)]
 pub struct PortRest<R> {
-    pub rt: R,
-    pub port: Arc<Port>,
+    rt: R,
+    port: Arc<Port>,
+}
+
+impl<R: Drop> Drop for PortRest<R> {
+    fn drop(self) {
+        let PortRest { rt, port } = self;
+        drop(rt);
+        drop(port)
+    }
+}
+
+impl<R> PortRest<R> {
+    /// How many rests there were.
+    pub fn rests(&self) -> u64 {
+        self.port.rests()
+    }
 }
 
 impl<R: Wait> Rest for PortRest<R> {
@@ -169,9 +198,15 @@ impl<R: Wait> Rest for PortRest<R> {
 
 /// A clock that goes on by rests: 100 milliseconds in each, a million where the first waits for something,
 /// or not at all.
-#[derive(Drop)]
 pub struct PortClock {
-    pub port: Arc<Port>,
+    port: Arc<Port>,
+}
+
+impl Drop for PortClock {
+    fn drop(self) {
+        let PortClock { port } = self;
+        drop(port)
+    }
 }
 
 impl Clock for PortClock {
@@ -188,7 +223,6 @@ impl Clock for PortClock {
 }
 
 /// An end's link.
-#[derive(Drop)]
 pub struct PortLink<R> {
     rt: R,
     port: Arc<Port>,
@@ -198,9 +232,28 @@ pub struct PortLink<R> {
     faults: u64,
 }
 
+impl<R: Drop> Drop for PortLink<R> {
+    fn drop(self) {
+        let PortLink {
+            rt,
+            port,
+            side: _,
+            at: _,
+            faults: _,
+        } = self;
+        drop(rt);
+        drop(port)
+    }
+}
+
 impl<R: Copy> PortLink<R> {
+    /// A listener's link to the first line.
+    pub fn first(rt: R, port: &Arc<Port>) -> Result<PortLink<R>, AllocError> {
+        PortLink::new(rt, port, Side::Listener, 0)
+    }
+
     /// A link of the side to the line at this place.
-    pub fn new(rt: R, port: &Arc<Port>, side: Side, at: usize) -> Result<PortLink<R>, AllocError> {
+    fn new(rt: R, port: &Arc<Port>, side: Side, at: usize) -> Result<PortLink<R>, AllocError> {
         Ok(PortLink {
             rt,
             port: port.clone()?,
@@ -274,7 +327,6 @@ impl<R: Wait + Copy> Link for PortLink<R> {
 
 /// A network of the one port. Its lines are accepted and dialled in their order; behind them nothing
 /// comes on what is accepted, and no more are dialled.
-#[derive(Drop)]
 pub struct PortNet<R> {
     rt: R,
     port: Arc<Port>,
@@ -291,9 +343,51 @@ pub struct PortNet<R> {
     faults: u64,
 }
 
+impl<R: Drop> Drop for PortNet<R> {
+    fn drop(self) {
+        let PortNet {
+            rt,
+            port,
+            failing: _,
+            passing: _,
+            lines: _,
+            next: _,
+            made: _,
+            at: _,
+            accepted: _,
+            faults: _,
+        } = self;
+        drop(rt);
+        drop(port)
+    }
+}
+
+/// What an end has of a port.
+pub struct PortEnd<R> {
+    pub network: PortNet<R>,
+    pub clock: PortClock,
+    pub rest: PortRest<R>,
+}
+
+/// The network, the clock and the rest of an end.
+pub fn end_of<R: Wait + Copy>(
+    rt: R,
+    port: &Arc<Port>,
+    trial: &Trial<'_>,
+) -> Result<PortEnd<R>, AllocError> {
+    let lines: Arc<Port> = port.clone()?;
+    let clocks: Arc<Port> = port.clone()?;
+    let rests: Arc<Port> = port.clone()?;
+    Ok(PortEnd {
+        network: PortNet::new(rt, lines, trial),
+        clock: PortClock { port: clocks },
+        rest: PortRest { rt, port: rests },
+    })
+}
+
 impl<R: Wait + Copy> PortNet<R> {
     /// A network with no fault so far.
-    pub fn new(rt: R, port: Arc<Port>, trial: &Trial<'_>) -> PortNet<R> {
+    fn new(rt: R, port: Arc<Port>, trial: &Trial<'_>) -> PortNet<R> {
         let lines = port.lines.lock(&rt).len();
         PortNet {
             rt,

@@ -1,5 +1,5 @@
 use Rattle.turn_post.specs.Passes.{IsPassOf}
-use Rattle.trials.proofs.hashing.store_pieces.Given as goal
+use Rattle.rows_session.proofs.sessions.put_free.Given as goal
 
 abbrev pub invariant-loop-at : goal.invariant-loop-at
 invariant-loop-at g l = IsPassOf l.shared.post l.pass

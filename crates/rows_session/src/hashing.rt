@@ -3,7 +3,6 @@
 
 ghost use Rattle.turn_post.specs.Passes.{IsPassOf};
 
-use crate::port::Port;
 use crate::sessions::SharedOf;
 use hash_calls::call::TempPiece;
 use hash_calls::message::Lb;
@@ -15,6 +14,7 @@ use std::rt::Clock;
 use std::sync::Wait;
 use std::thread;
 use std::time::Duration;
+use trial_outside::port::Port;
 use turn_post::post::Pass;
 use wire::message::{Body, LBFS_SPOKEN, Message, RpcRefusal};
 
@@ -63,6 +63,25 @@ pub fn store_pieces<R: Wait + Clock + Copy + Drop, H: Turns + Drop>(
     pass
 }
 
+/// Something is said to the session.
+pub fn say<R: Wait + Clock + Copy + Drop, H: Turns + Drop>(
+    rt: &R,
+    shared: &SharedOf<H, R>,
+    pass: Pass<H>,
+    session: u32,
+) -> Pass<H>
+    requires { IsPassOf shared.now.post pass }
+    ensures { IsPassOf shared.now.post result }
+{
+    let event = Event::Got {
+        session,
+        message: Message::Unfit(7, RpcRefusal::ProcUnavail),
+        now: 0,
+    };
+    let (pass, _went) = shared.event(rt, pass, event);
+    pass
+}
+
 /// Once the COMMITTMP was taken something is said to the session.
 pub fn tell_meanwhile<R: Wait + Clock + Copy + Drop, H: Turns + Drop>(
     rt: &R,
@@ -77,11 +96,5 @@ pub fn tell_meanwhile<R: Wait + Clock + Copy + Drop, H: Turns + Drop>(
     port.await_taken(rt);
     port.forget_calls(rt);
     thread::sleep(rt, Duration::from_millis(10));
-    let event = Event::Got {
-        session,
-        message: Message::Unfit(7, RpcRefusal::ProcUnavail),
-        now: 0,
-    };
-    let (pass, _went) = shared.event(rt, pass, event);
-    pass
+    say(rt, shared, pass, session)
 }

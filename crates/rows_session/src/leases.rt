@@ -2,14 +2,14 @@
 //! each line is given, and how many rests the server took meanwhile.
 
 use crate::gate::TurnGate;
-use crate::outside::store;
-use crate::port::{Port, PortClock, PortNet, PortRest};
-use crate::trial::Trial;
 use lbfs_server::serve::{ServeError, Served, serve};
 use row_text::out::Out;
-use std::alloc::Global;
+use std::alloc::{AllocError, Global};
 use std::sync::{Arc, Wait};
 use std::thread::Threads;
+use trial_outside::outside::store;
+use trial_outside::port::{Port, PortEnd, end_of};
+use trial_outside::trial::Trial;
 
 /// How long a lease lasts, in milliseconds.
 const TERM: u32 = 1000;
@@ -32,32 +32,29 @@ fn put_served(served: Result<Served, ServeError>, out: &mut Out) {
 fn run<R: Threads + Wait + Sync + Send + Copy + Drop>(
     rt: &R,
     alloc: Global,
-    ports: (Arc<Port>, Arc<Port>, Arc<Port>),
+    port: &Arc<Port>,
     trial: &Trial<'_>,
     out: &mut Out,
-) {
-    let (lines, clocks, rests) = ports;
-    let Ok(store) = store(alloc, trial, out) else {
-        return out.lack();
-    };
-    let net = PortNet::new(*rt, lines, trial);
-    let sessions = net.lines();
-    let clock = PortClock { port: clocks };
-    let rest = PortRest {
-        rt: *rt,
-        port: rests,
-    };
+) -> Result<(), AllocError> {
+    let store = store(alloc, trial, out)?;
+    let PortEnd {
+        network,
+        clock,
+        rest,
+    } = end_of(*rt, port, trial)?;
+    let sessions = network.lines();
     let gate = TurnGate::new(*rt, alloc, trial, out);
-    let (served, store, net) = serve(
-        rt, alloc, store, "DIR", net, &clock, &rest, gate, 7000, TERM, sessions,
+    let (served, store, network) = serve(
+        rt, alloc, store, "DIR", network, &clock, &rest, gate, 7000, TERM, sessions,
     );
     drop(store);
-    drop(net);
+    drop(network);
     put_served(served, out);
     if trial.setting("counted").is_some() {
         out.text(" rests");
-        out.number(rest.port.rests());
+        out.number(rest.rests());
     }
+    Ok(())
 }
 
 /// What comes of a row.
@@ -68,12 +65,7 @@ pub fn put<R: Threads + Wait + Sync + Send + Copy + Drop>(
     trial: &Trial<'_>,
     out: &mut Out,
 ) {
-    let lines: Result<Arc<Port>, _> = port.clone();
-    let clocks: Result<Arc<Port>, _> = port.clone();
-    let rests: Result<Arc<Port>, _> = port.clone();
-    match (lines, clocks, rests) {
-        (Ok(lines), Ok(clocks), Ok(rests)) => run(rt, alloc, (lines, clocks, rests), trial, out),
-        _ => out.lack(),
-    }
+    let run = run(rt, alloc, port, trial, out);
+    out.note(run);
     port.put_lines(rt, out)
 }

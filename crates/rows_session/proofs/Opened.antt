@@ -18,3 +18,6 @@ is_opened server is = opening_told server (ap (λ (s : State). s.journal) is) (s
 
 pub keeps_tree : (server : State) → KeepsTree None server.tree
 keeps_tree server = λ records is. absurd (let never : None ≡ Some records = is in cc)
+
+-- what `put` goes by
+pub ruleset by_put = (nothing_held, is_opened, keeps_tree)

@@ -1,11 +1,11 @@
 //! A gate that lets turns begin in the order that a row names; behind the last of these all may.
 
-use crate::trial::Trial;
 use row_text::out::Out;
 use row_text::text::number;
 use server_turns::gate::{Gate, Who};
 use std::alloc::Global;
 use std::sync::{Condvar, Mutex, MutexGuard, Wait};
+use trial_outside::trial::Trial;
 
 /// Whose turn a word names, by its first letter: the listener's, the ticker's, the sleep of the ticker, that of
 /// the thread that takes a session's records, of the one that puts out what is said to it, and the sleep of that.
@@ -87,12 +87,20 @@ fn end(order: &mut Order) {
 }
 
 /// Lets turns begin in an order.
-#[derive(Drop)]
 pub struct TurnGate<R> {
     rt: R,
     order: Mutex<Order>,
     /// A turn has ended.
     news: Condvar,
+}
+
+// By hand, as above.
+impl<R: Drop> Drop for TurnGate<R> {
+    fn drop(self) {
+        let TurnGate { rt, order, news: _ } = self;
+        drop(rt);
+        drop(order)
+    }
 }
 
 impl<R: Wait> TurnGate<R> {

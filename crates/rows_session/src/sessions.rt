@@ -1,12 +1,12 @@
 //! Sessions of a server without the program around it: why each ends, and that all its threads come
 //! back where its client takes nothing.
+//!
+//! What the turns are of is a parameter (`H`), but where the server is made (`put`, `put_held`): so no other function
+//! has it in reach, and that a thread may be given it is shown once.
 
 ghost use Rattle.turn_post.specs.Passes.{IsPassOf};
 
-use crate::hashing::{store_pieces, tell_meanwhile};
-use crate::line::Side;
-use crate::port::{Port, PortLink};
-use crate::tried_store::{TriedStore, TriedSyncs};
+use crate::hashing::{say, store_pieces, tell_meanwhile};
 use lb_base::items::Items;
 use lbfs_server::session::{session_both, session_in, session_out};
 use links::clock::FixedClock;
@@ -26,17 +26,12 @@ use std::thread::Threads;
 use std::time::Duration;
 use store::mem_store::MemStore;
 use synced_store::syncs::Synced;
+use trial_outside::port::{Port, PortLink};
+use trial_outside::tried_store::{TriedStore, TriedSyncs};
 use turn_post::post::{Pass, Post};
-use wire::message::{Message, RpcRefusal};
 
-/// What is handed from turn to turn.
-type MemHeld = SharedServer<TriedStore>;
-
-/// What the threads of a server share. What its turns are of is a parameter: that a thread may be given
-/// `SharedServer` is then shown once, where the threads are run (`run_beside`).
+/// What the threads of a server share.
 pub(crate) type SharedOf<H, R> = Shared<H, TriedSyncs, OpenGate, PortLink<R>>;
-
-type PortShared<R> = SharedOf<MemHeld, R>;
 
 /// Why a session ended.
 fn name_of(end: End) -> &'static str {
@@ -98,15 +93,7 @@ fn speak_to<R: Wait + Clock + Copy + Drop, H: Turns + Drop>(
         pass = tell_meanwhile(rt, shared, pass, session, port);
     }
     if others.says {
-        let message = Message::Unfit(7, RpcRefusal::ProcUnavail);
-        let now = 0;
-        let event = Event::Got {
-            session,
-            message,
-            now,
-        };
-        let (next, _went) = shared.event(rt, pass, event);
-        pass = next;
+        pass = say(rt, shared, pass, session);
         port.await_speaker(rt);
     }
     if others.hangs {
@@ -158,10 +145,10 @@ fn run_threads<'x, R: Threads + Wait + Clock + Sync + Send + Copy + Drop, H: Tur
 }
 
 /// How many further connections can be made.
-fn put_free<R: Wait + Copy + Drop>(
+fn put_free<R: Wait + Copy + Drop, H: Turns + Drop>(
     rt: &R,
-    shared: &PortShared<R>,
-    pass: Pass<MemHeld>,
+    shared: &SharedOf<H, R>,
+    pass: Pass<H>,
     out: &mut Out,
 )
     requires { IsPassOf shared.now.post pass }
@@ -180,44 +167,44 @@ fn put_free<R: Wait + Copy + Drop>(
 }
 
 /// Runs a session in its two threads, beside another that has to do with it.
-fn run_beside<R: Threads + Wait + Clock + Sync + Send + Copy + Drop>(
+fn run_beside<R: Threads + Wait + Clock + Sync + Send + Copy + Drop, H: Turns + Drop + Send>(
     rt: &R,
-    shared: &PortShared<R>,
-    pass: Pass<MemHeld>,
+    shared: &SharedOf<H, R>,
+    pass: Pass<H>,
     session: u32,
     port: &Arc<Port>,
     others: Others,
 ) -> Result<End, AllocError>
     requires { IsPassOf shared.now.post pass }
 {
-    let takes = PortLink::new(*rt, port, Side::Listener, 0)?;
-    let further = PortLink::new(*rt, port, Side::Listener, 0)?;
-    let gives = Mutex::new(PortLink::new(*rt, port, Side::Listener, 0)?);
+    let takes = PortLink::first(*rt, port)?;
+    let further = PortLink::first(*rt, port)?;
+    let gives = Mutex::new(PortLink::first(*rt, port)?);
     shared.keep_link(rt, session, further);
     Ok(run_threads(rt, shared, pass, session, port, &gives, takes, others))
 }
 
 /// Runs a session in one thread.
-fn run_alone<R: Threads + Wait + Copy + Drop>(
+fn run_alone<R: Threads + Wait + Copy + Drop, H: Turns + Drop>(
     rt: &R,
-    shared: &PortShared<R>,
-    pass: Pass<MemHeld>,
+    shared: &SharedOf<H, R>,
+    pass: Pass<H>,
     session: u32,
     port: &Arc<Port>,
 ) -> Result<End, AllocError>
     requires { IsPassOf shared.now.post pass }
 {
-    let mut link = PortLink::new(*rt, port, Side::Listener, 0)?;
+    let mut link = PortLink::first(*rt, port)?;
     let clock = FixedClock::at(0);
     let (_pass, end) = session_both(rt, shared, pass, session, &mut link, &clock);
     Ok(end)
 }
 
 /// Runs a session, in one thread or in several, and tells why it ended.
-fn put_session<R: Threads + Wait + Clock + Sync + Send + Copy + Drop>(
+fn put_session<R: Threads + Wait + Clock + Sync + Send + Copy + Drop, H: Turns + Drop + Send>(
     rt: &R,
-    shared: &PortShared<R>,
-    pass: Pass<MemHeld>,
+    shared: &SharedOf<H, R>,
+    pass: Pass<H>,
     session: u32,
     port: &Arc<Port>,
     kind: &str,
@@ -245,10 +232,10 @@ fn put_session<R: Threads + Wait + Clock + Sync + Send + Copy + Drop>(
 }
 
 /// How many connections in a row are told the next number, of 64, and how two more end.
-fn put_connections<R: Wait + Copy + Drop>(
+fn put_connections<R: Wait + Copy + Drop, H: Turns + Drop>(
     rt: &R,
-    shared: &PortShared<R>,
-    pass: Pass<MemHeld>,
+    shared: &SharedOf<H, R>,
+    pass: Pass<H>,
     out: &mut Out,
 )
     requires { IsPassOf shared.now.post pass }
@@ -273,10 +260,10 @@ fn put_connections<R: Wait + Copy + Drop>(
 }
 
 /// What comes of a row at a server.
-fn put_shared<R: Threads + Wait + Clock + Sync + Send + Copy + Drop>(
+fn put_shared<R: Threads + Wait + Clock + Sync + Send + Copy + Drop, H: Turns + Drop + Send>(
     rt: &R,
-    shared: &PortShared<R>,
-    pass: Pass<MemHeld>,
+    shared: &SharedOf<H, R>,
+    pass: Pass<H>,
     port: &Arc<Port>,
     kind: &str,
     out: &mut Out,
@@ -297,7 +284,7 @@ fn put_shared<R: Threads + Wait + Clock + Sync + Send + Copy + Drop>(
 fn put_held<R: Threads + Wait + Clock + Sync + Send + Copy + Drop>(
     rt: &R,
     alloc: Global,
-    held: MemHeld,
+    held: SharedServer<TriedStore>,
     syncs: TriedSyncs,
     port: &Arc<Port>,
     kind: &str,
@@ -328,7 +315,7 @@ fn empty_store(alloc: Global) -> Result<(TriedStore, TriedSyncs), AllocError> {
 
 /// What comes of a row: a session of a server of an empty store over the port's first line, or one
 /// connection after the other.
-#[tactic(auto, using(crate::proofs::Opened::nothing_held, crate::proofs::Opened::is_opened, crate::proofs::Opened::keeps_tree))]
+#[tactic(auto, using(crate::proofs::Opened::by_put))]
 pub fn put<R: Threads + Wait + Clock + Sync + Send + Copy + Drop>(
     rt: &R,
     alloc: Global,
@@ -336,16 +323,14 @@ pub fn put<R: Threads + Wait + Clock + Sync + Send + Copy + Drop>(
     kind: &str,
     out: &mut Out,
 ) {
-    let (Ok(server), Ok((store, syncs))) = (Server::new(alloc, 0), empty_store(alloc)) else {
+    let Ok((store, syncs)) = empty_store(alloc) else {
         return out.lack();
     };
-    put_held(
-        rt,
-        alloc,
-        SharedServer::new(alloc, server, store),
-        syncs,
-        port,
-        kind,
-        out,
-    )
+    match Server::new(alloc, 0) {
+        Ok(server) => {
+            let held = SharedServer::new(alloc, server, store);
+            put_held(rt, alloc, held, syncs, port, kind, out)
+        }
+        Err(_) => out.lack(),
+    }
 }

@@ -22,7 +22,6 @@ fn line_len(text: &[u8]) -> usize {
 
 /// Zeros, which are nowhere held, and behind them an input that is given in pieces, or line by line. It
 /// notes how many answers had appeared before each call.
-#[derive(Drop)]
 pub struct Typist<'a> {
     /// What is left of it.
     text: &'a [u8],
@@ -35,6 +34,24 @@ pub struct Typist<'a> {
     answers: &'a AtomicU64,
     seen: Vec<u64>,
     faults: u64,
+}
+
+// By hand, as below: docs/proving/dropping.md.
+impl<'a> Drop for Typist<'a> {
+    fn drop(self) {
+        let Typist {
+            text: _,
+            zeros: _,
+            piece: _,
+            is_by_line: _,
+            failing: _,
+            calls: _,
+            answers: _,
+            seen,
+            faults: _,
+        } = self;
+        drop(seen)
+    }
 }
 
 impl<'a> Typist<'a> {
@@ -115,7 +132,6 @@ impl<'a> Source for Typist<'a> {
 }
 
 /// What was written. It counts how many answers have appeared, one a call.
-#[derive(Drop)]
 pub struct Screen<'a> {
     text: Vec<u8>,
     piece: usize,
@@ -125,6 +141,21 @@ pub struct Screen<'a> {
     calls: u64,
     answers: &'a AtomicU64,
     faults: u64,
+}
+
+impl<'a> Drop for Screen<'a> {
+    fn drop(self) {
+        let Screen {
+            text,
+            piece: _,
+            failing: _,
+            starved: _,
+            calls: _,
+            answers: _,
+            faults: _,
+        } = self;
+        drop(text)
+    }
 }
 
 impl<'a> Screen<'a> {

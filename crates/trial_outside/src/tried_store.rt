@@ -35,9 +35,16 @@ impl Settles {
 }
 
 /// What makes a store sure.
-#[derive(Drop)]
 pub struct TriedSyncs {
     settles: Arc<Settles>,
+}
+
+// By hand, as below: docs/proving/dropping.md.
+impl Drop for TriedSyncs {
+    fn drop(self) {
+        let TriedSyncs { settles } = self;
+        drop(settles)
+    }
 }
 
 impl Syncs for TriedSyncs {
@@ -53,11 +60,22 @@ impl Syncs for TriedSyncs {
 }
 
 /// The store. It tells nothing of its records.
-#[derive(Drop)]
 pub struct TriedStore {
     store: MemStore,
     settles: Arc<Settles>,
     faults: u64,
+}
+
+impl Drop for TriedStore {
+    fn drop(self) {
+        let TriedStore {
+            store,
+            settles,
+            faults: _,
+        } = self;
+        drop(store);
+        drop(settles)
+    }
 }
 
 impl TriedStore {

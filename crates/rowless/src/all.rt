@@ -1,0 +1,25 @@
+//! What comes of all of them.
+
+use crate::{lists, sinks, sources, streams, turns};
+use row_text::out::Out;
+use std::alloc::Global;
+use std::rt::Clock;
+use std::sync::Wait;
+use std::thread::Threads;
+
+/// What comes of each trial without a row.
+pub fn put<R: Threads + Wait + Clock + Sync>(rt: &R, alloc: Global, out: &mut Out) {
+    lists::put(alloc, out);
+    for limit in [6usize, 5, 4, 0] {
+        sources::put_read(alloc, 2, limit, &[], out);
+    }
+    sources::put_read(alloc, 9, 9, &[0], out);
+    sources::put_takes(alloc, out);
+    sources::put_sure(alloc, out);
+    sinks::put(alloc, out);
+    for interrupts in [3u32, 300] {
+        streams::put_idle(interrupts, out);
+    }
+    streams::put_memory(alloc, out);
+    turns::put(rt, alloc, out)
+}

@@ -1,0 +1,12 @@
+//! The outside of a trial in memory: lines at a port, an input that is typed, a screen, and a store; what a row says of
+//! them, and what of their calls fails.
+#![tactic(auto)]
+
+pub mod left;
+mod line;
+pub mod outside;
+pub mod port;
+pub mod screen;
+pub mod trial;
+pub mod tried_store;
+mod wanted;
