@@ -186,6 +186,15 @@ called_tree s session xid (body.Nfs (nfs.Rename a)) = inr tt
 called_tree s session xid (body.Nfs m) = inl (outcome_tree s session xid (s.tree, told_outcome (told_by s.tree.nodes m)))
 called_tree s session xid b = inl (called_keeps (λ (z : server.State). z.tree ≡ s.tree) s session xid b tt (λ temps waiting index leasing w. refl))
 
+-- and such a one leaves what it comes to over that
+pub named_tree : (s : server.State) (session xid : ℕ) (m : Nfs) → ChangesNames m → (called s session xid (body.Nfs m)).0.tree ≡ (calls s.tree (server.held s.waiting) (has_waiting s.waiting session) m).0
+named_tree s session xid (nfs.Create a) may = outcome_tree s session xid (calls s.tree (server.held s.waiting) (has_waiting s.waiting session) (nfs.Create a))
+named_tree s session xid (nfs.MkDir a) may = outcome_tree s session xid (calls s.tree (server.held s.waiting) (has_waiting s.waiting session) (nfs.MkDir a))
+named_tree s session xid (nfs.Remove a) may = outcome_tree s session xid (calls s.tree (server.held s.waiting) (has_waiting s.waiting session) (nfs.Remove a))
+named_tree s session xid (nfs.RmDir a) may = outcome_tree s session xid (calls s.tree (server.held s.waiting) (has_waiting s.waiting session) (nfs.RmDir a))
+named_tree s session xid (nfs.Rename a) may = outcome_tree s session xid (calls s.tree (server.held s.waiting) (has_waiting s.waiting session) (nfs.Rename a))
+named_tree s session xid m may = absurd may
+
 -- what a server's tree keeps by the calls on it, it keeps whatever comes
 called_any : (s : server.State) (session xid : ℕ) (b : Body) (R : Tree → Type 0) → R s.tree → ((busy : Bool) (m : Nfs) → R (calls s.tree (server.held s.waiting) busy m).0) → R (called s session xid b).0.tree
 called_any s session xid (body.Nfs nfs.Null) R same step = same

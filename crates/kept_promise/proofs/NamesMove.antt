@@ -13,7 +13,7 @@ use Rattle.tree_reading.specs.declared.call.Changed.{Changed}
 use Rattle.tree_reading.specs.declared.call.Reservation.{Reservation}
 use Rattle.file_tree.specs.Step.{replace_if}
 use Rattle.tree_reading.specs.Plans.{replace_plan}
-use Rattle.tree_calls.specs.Waiting.{gives_content, file_of, settles as tree_settles}
+use Rattle.tree_calls.specs.Waiting.{calls, gives_content, file_of, settles as tree_settles}
 use Rattle.tree_calls.specs.Changing.{said}
 use Rattle.tree_calls.specs.declared.asked.Asked.{Asked}
 use Rattle.tree_calls.specs.declared.asked.Asked.TheVariants as asked
@@ -29,13 +29,13 @@ use Rattle.path_calls.specs.declared.answers.Told.TheVariants as told
 use Rattle.path_calls.specs.declared.walk.Goal.{Goal}
 use Rattle.path_calls.specs.declared.walk.Goal.TheVariants as goal
 use Rattle.path_calls.specs.declared.walk.Walk.{Walk}
-use Rattle.trace_replay.specs.NameChanges.{names_of, KeepsNames, ChangesNames, MakesOf, TakesNaming, MakesNaming, NamesChangeBy, IsOwnNaming, ChangesRaw}
+use Rattle.trace_replay.specs.NameChanges.{names_of, KeepsNames, ChangesNames, MakesOf, TakesNaming, MakesNaming, NamesChangeBy, ChangesRaw}
 use Rattle.trace_replay.specs.PendingChanges.{EndsSession, ClosesRaw}
 use Rattle.server_law.proofs.lemmas.Trees.{IsBounded}
 use Rattle.trace_ends.specs.Core.{Loss, Loss.Nothing, Loss.Up_of, server_got, serves_none}
 use Rattle.trace_replay.specs.Naming.{refusal_of}
 use Rattle.trace_replay.specs.OwnCalls.{ComesTo, held_at, others_waiting}
-use Rattle.kept_promise.proofs.Common.{cond, if◌then◌else◌, ◌==◌, filter, not, slice_get, Contains, Contains-append_left, Contains-append_right, Contains-push, Contains-push_cases, Status, Message, WireFault, parse_of, Tree, FileChange, Wanted, server_step, stands, at, has_waiting, Op, Opening, Core, Session, Event, Event.Serves, Event.Settles, CoreStep, numbered, server_waiting, server_waits, serves_if, serves, does, joins, hears, cuts, hangs_if, hangs, happens, Moment, step_of, client_of, is_in, Book, Queue, Ask, NameReply, name_answer, ask_message, Call, Call.Walks, is_raw, serves_unless}
+use Rattle.kept_promise.proofs.Common.{cond, if◌then◌else◌, ◌==◌, filter, not, slice_get, Contains, Contains-append_left, Contains-append_right, Contains-push, Contains-push_cases, Status, Message, WireFault, parse_of, Tree, FileChange, Wanted, server_step, stands, at, has_waiting, Op, Opening, Core, Session, Event, Event.Serves, Event.Settles, CoreStep, numbered, called, server_waiting, server_waits, serves_if, serves, does, joins, hears, cuts, hangs_if, hangs, happens, Moment, step_of, client_of, is_in, Book, Queue, Ask, NameReply, name_answer, ask_message, Call, Call.Walks, is_raw, serves_unless}
 use Rattle.server_core.specs.Closing.{makes_change}
 use Rattle.kept_promise.proofs.Lists.{some_is, nothing_there, of_appended, true_and_false}
 use Rattle.kept_promise.proofs.Messages.{AllAsks, AsksFor, walk_for, walk_is}
@@ -50,7 +50,7 @@ use Rattle.kept_promise.proofs.Actors.{serves_fits, serves_read, serves_read_pla
 use Rattle.kept_promise.proofs.Replies.{reply_taken, reply_silent}
 use Rattle.kept_promise.proofs.Hangs.{left_there}
 use Rattle.kept_promise.proofs.CallsAlike.{call_read}
-use Rattle.kept_promise.proofs.CallsKeep.{IsByCommit, is_of_files, Waits, got_keeps, makes_call, walk_made, MayName, called_tree}
+use Rattle.kept_promise.proofs.CallsKeep.{IsByCommit, is_of_files, Waits, got_keeps, makes_call, walk_made, MayName, called_tree, named_tree}
 use Rattle.kept_promise.proofs.PathNames.{IsWalkSmall, makes_at, is_making, is_building, is_going, making_is, building_makes, going_makes}
 use Rattle.kept_promise.proofs.Makings.{made_by, step_by, MadeSo, refuses, enters, made_walk}
 use Rattle.kept_promise.proofs.Departures.{ComesSo, refused, done_now, waits, comes_so, SettlesSo, refused_late, goes, settles_so, asks_itself}
@@ -407,7 +407,9 @@ names_settles past book k qs now kept h = by (what_settles book k qs now kept)
         home = kept.home out.out.place c out.out.there
 
         first : (w : Wanted) → c.what ≡ w → (is_raw home.0 ≡ true) ⊎ (is_raw home.0 ≡ false) → KeepsNames (moment k (Settles now)) ⊎ (MakesNaming (past ++ moment k (Settles now) ∷ []) (moment k (Settles now)) ⊎ ChangesRaw (moment k (Settles now)))
-        first (wanted.Asked a) what (inl raw) = inr (inr (c.session, home.0, home.1, raw, inr (now, c, a, refl, out.ready, refl, what)))
+        first (wanted.Asked a) what (inl raw) =
+            let tree = ap (λ (t : CoreStep). t.core.server.tree) (asked_settles k now c cs a out what) ∙ ap (λ (held : Reservation). (tree_settles k.server.tree held a).0) (sym (ap server.held out.others)) in
+            inr (inr (c.session, home.0, home.1, raw, inr (now, c, a, refl, out.ready, refl, what, tree)))
         first (wanted.Content content) what whose = inl (λ dir.
             ap (λ (s : server.State). names_of s.tree dir) server_is
             ∙ ap (λ (w : Wanted). names_of (makes_change (at (record k.server { waiting = cs }) now) c w).0.tree dir) what
@@ -426,43 +428,44 @@ names_settles past book k qs now kept h = by (what_settles book k qs now kept)
 
 -- ---- a session that is no client's
 
--- a step leaves this tree: the one before, or it is by a call that may change names
-abbrev StaysOrNames : Core → (n now : ℕ) → List ℕ → Tree → Type 0
-StaysOrNames k n now bytes t = (t ≡ k.server.tree) ⊎ IsOwnNaming (moment k (Serves n now bytes)) n
+-- a step leaves this tree: the one before, or what a call that may change names comes to
+abbrev StaysOrNames : Core → (n : ℕ) → List ℕ → Tree → Type 0
+StaysOrNames k n bytes t = (t ≡ k.server.tree) ⊎ ((xid : ℕ) × (call : Nfs) × (parse_of server_waiting bytes ≡ Ok (message.Call xid (body.Nfs call))) × ChangesNames call
+    × (t ≡ (calls k.server.tree (server.held k.server.waiting) (has_waiting k.server.waiting n) call).0))
 
 -- by any of its messages but such a call names stay
 raw_names : (k : Core) (n now : ℕ) (bytes : List ℕ) (x : Session) → numbered k.sessions n ≡ Some x → is_raw x ≡ true → KeepsNames (moment k (Serves n now bytes)) ⊎ ChangesRaw (moment k (Serves n now bytes))
 raw_names k n now bytes x on raw = elim (by x.hung) [
   | inl same ↦ inl (λ dir. ap (λ (o : Option Session). names_of (serves k n now bytes o).core.server.tree dir) on ∙ ap (λ (t : Tree). names_of t dir) same)
-  | inr own ↦ inr (n, x, on, raw, own)
+  | inr own ↦ inr (n, x, on, raw, inl (now, own.0, bytes, own.1, refl, own.2, own.3, ap (λ (o : Option Session). (serves k n now bytes o).core.server.tree) on ∙ own.4))
 ]
   where
-    lost : (b : Bool) → StaysOrNames k n now bytes (Rattle.server_core.specs.Step.hangs_if k.server b n).0.tree
+    lost : (b : Bool) → StaysOrNames k n bytes (Rattle.server_core.specs.Step.hangs_if k.server b n).0.tree
     lost true = inl refl
     lost false = inl refl
 
-    none : (e : WireFault) → StaysOrNames k n now bytes (serves_none k n x e).core.server.tree
+    none : (e : WireFault) → StaysOrNames k n bytes (serves_none k n x e).core.server.tree
     none (fault.UnknownXid xid) = inl refl
     none (fault.NotRpc place) = lost (stands k.server n)
     none (fault.Garbage place) = lost (stands k.server n)
 
-    named : (b : Body) → MayName b → (xid : ℕ) → parse_of server_waiting bytes ≡ Ok (message.Call xid b) → IsOwnNaming (moment k (Serves n now bytes)) n
-    named (body.Nfs call) may xid read = inl (now, xid, bytes, call, refl, read, may)
+    named : (b : Body) → MayName b → (xid : ℕ) → parse_of server_waiting bytes ≡ Ok (message.Call xid b) → StaysOrNames k n bytes (called (at k.server now) n xid b).0.tree
+    named (body.Nfs call) may xid read = inr (xid, call, read, may, named_tree (at k.server now) n xid call may)
     named (body.Lb call) may xid read = absurd may
     named (body.Back call) may xid read = absurd may
 
-    got : (m : Message) → parse_of (server_waits k n) bytes ≡ Ok m → (b : Bool) → StaysOrNames k n now bytes (Rattle.server_core.specs.Step.got_if k.server b n m now).0.tree
-    got (message.Call xid b) read true = elim (called_tree (at k.server now) n xid b) [ inl same ↦ inl same | inr may ↦ inr (named b may xid (call_read k n bytes xid b read)) ]
+    got : (m : Message) → parse_of (server_waits k n) bytes ≡ Ok m → (b : Bool) → StaysOrNames k n bytes (Rattle.server_core.specs.Step.got_if k.server b n m now).0.tree
+    got (message.Call xid b) read true = elim (called_tree (at k.server now) n xid b) [ inl same ↦ inl same | inr may ↦ named b may xid (call_read k n bytes xid b read) ]
     got (message.Unfit xid why) read true = inl refl
     got (message.Answer xid b) read true = inl refl
     got (message.Refuse xid why) read true = inl refl
     got m read false = inl refl
 
-    taken : (r : Result Message WireFault) → parse_of (server_waits k n) bytes ≡ r → StaysOrNames k n now bytes (serves_if k n now x r).core.server.tree
+    taken : (r : Result Message WireFault) → parse_of (server_waits k n) bytes ≡ r → StaysOrNames k n bytes (serves_if k n now x r).core.server.tree
     taken (Ok m) read = got m read (stands k.server n)
     taken (Err e) read = none e
 
-    by : (b : Bool) → StaysOrNames k n now bytes (serves_unless k n now bytes x b).core.server.tree
+    by : (b : Bool) → StaysOrNames k n bytes (serves_unless k n now bytes x b).core.server.tree
     by true = inl refl
     by false = taken (parse_of (server_waits k n) bytes) refl
 

@@ -13,9 +13,10 @@ use Rattle.tree_reading.specs.declared.call.CreateMode.TheVariants as mode
 use Rattle.tree_reading.specs.declared.call.Reservation.{Reservation}
 use Rattle.path_calls.specs.Walk.{place, create_call, make_dir_call, rename_call}
 use Rattle.register_model.specs.declared.op.Op.{Op}
-use Rattle.server_core.specs.Closing.{ready_by}
+use Rattle.server_core.specs.Closing.{has_waiting, ready_by}
 use Rattle.server_core.specs.State.{FileChange}
 use Rattle.server_core.specs.declared.change.Wanted.TheVariants as wanted
+use Rattle.tree_calls.specs.Waiting.{calls, settles}
 use Rattle.tree_calls.specs.declared.asked.Asked.{Asked}
 use Rattle.trace_ends.specs.Core.{Event.Serves, Event.Settles, server_waiting, happens}
 use Rattle.trace_ends.specs.Numbers.{numbered}
@@ -85,10 +86,12 @@ IsStepOf o m = is_in o (step_of m) (client_of m.before m.event) ≡ true
 abbrev pub ChangesBy : Book → Moment → Type 0
 ChangesBy book m = (n : MakesNaming book.moments m) × (k : ℕ) × (o : Op) × (slice_get book.ops k ≡ Some o) × IsStepOf o n.takes.sent.moment
 
--- in this step the server takes a call of this session by which names may change, or settles what such a one left pending
+-- in this step the server takes a call of this session by which names may change, or settles what such a one left pending; its tree becomes just what that comes to
 abbrev pub IsOwnNaming : Moment → (session : ℕ) → Type 0
-IsOwnNaming m session = ((now xid : ℕ) × (bytes : List ℕ) × (call : Nfs) × (m.event ≡ Serves session now bytes) × (parse_of server_waiting bytes ≡ Ok (message.Call xid (body.Nfs call))) × ChangesNames call)
-    ⊎ ((now : ℕ) × (c : FileChange) × (a : Asked) × (m.event ≡ Settles now) × (ready_by m.before.server now ≡ Some c) × (c.session ≡ session) × (c.what ≡ wanted.Asked a))
+IsOwnNaming m session = ((now xid : ℕ) × (bytes : List ℕ) × (call : Nfs) × (m.event ≡ Serves session now bytes) × (parse_of server_waiting bytes ≡ Ok (message.Call xid (body.Nfs call))) × ChangesNames call
+    × ((happens m.before m.event).core.server.tree ≡ (calls (tree_at m) (held_at m) (has_waiting m.before.server.waiting session) call).0))
+    ⊎ ((now : ℕ) × (c : FileChange) × (a : Asked) × (m.event ≡ Settles now) × (ready_by m.before.server now ≡ Some c) × (c.session ≡ session) × (c.what ≡ wanted.Asked a)
+    × ((happens m.before m.event).core.server.tree ≡ (settles (tree_at m) (held_at m) a).0))
 
 -- or it is so of a session that is no client's
 abbrev pub ChangesRaw : Moment → Type 0

@@ -4,7 +4,8 @@ ghost use Rattle.std.specs.Prelude.{◌≡◌, true, false, nat_lt, nat_le, IfOk
 ghost use Rattle.trace_text.specs.Reading.{IsTimely};
 ghost use Rattle.trace_ends.specs.Numbers.{numbered};
 ghost use Rattle.trace_replay.specs.World.{World};
-ghost use Rattle.trace_replay.specs.Run.{sessions_most, raw_joins_within, is_owned_at, is_raw_at, is_there, has_index, asks_if, place_for, file_asks, directory_asks, joins_if, warm_asks, adjust_asks, event_asks, asks_at, asks, asks_within, asked, in_header};
+ghost use Rattle.trace_replay.specs.Run.{sessions_most, raw_joins_within, is_owned_at, is_raw_at, is_there, has_index, asks_if, place_for, file_asks, directory_asks, joins_if, warm_asks, adjust_asks};
+ghost use Rattle.trace_replay.specs.Run.{event_asks, asks_at, asks, asks_within, asked, in_header};
 ghost use Rattle.trace_replay.specs.Turns.{IsTurnBounded, is_delivery, is_do, is_raw_line, is_warm, stage_after};
 ghost use Rattle.trace_ends.specs.View.{core_of};
 ghost use Rattle.trace_replay.specs.WorldView.{world_of};
