@@ -57,6 +57,14 @@ fn fault_of(error: &io::Error) -> LocalFault {
     }
 }
 
+/// Why a file wasn't written: what wasn't found as it was made is its folder.
+fn unwritten(error: &io::Error) -> LocalFault {
+    match fault_of(error) {
+        LocalFault::Missing => LocalFault::NoFolder,
+        fault => fault,
+    }
+}
+
 /// Whether a file is as it was, by its length and the time of its last change.
 fn is_same(before: &Metadata, after: &Metadata) -> bool {
     match (before.modified(), after.modified()) {
@@ -287,7 +295,7 @@ impl<R: HostDisk> Folder for HostFolder<R> {
                 let _gone = fs::remove_file(&self.rt, beside.as_str());
                 Ok(())
             }
-            Err(error) => Err(fault_of(&error)),
+            Err(error) => Err(unwritten(&error)),
         }
     }
 
@@ -298,7 +306,7 @@ impl<R: HostDisk> Folder for HostFolder<R> {
             Ok(()) => Ok(()),
             Err(error) => {
                 let _gone = fs::remove_file(&self.rt, beside.as_str());
-                Err(fault_of(&error))
+                Err(unwritten(&error))
             }
         }
     }

@@ -1,6 +1,7 @@
 //! The words for people: a shell over the same client as `mount`, on TCP, the host's files, its clock, and
 //! standard error as the place where it is said how far a command is.
 
+use crate::person::{Person, words_file};
 use exit_status::shell_end::ShellEnd;
 use host::dialler::TcpDialler;
 use host::host_folder::HostFolders;
@@ -60,7 +61,10 @@ fn run_over<H: Threads + Wait + Sync>(
         return ShellEnd::Memory;
     };
     let out = Outside {
-        screen: HostScreen::new(rt.stderr(), rt.stdin()),
+        screen: Person {
+            screen: HostScreen::new(rt.stderr(), rt.stdin()),
+            words: words_file(&rt),
+        },
         folders: HostFolders::new(rt, process::id(rt.process())),
         dialler: TcpDialler::new(rt, port, count),
         clock: HostClock::new(rt),

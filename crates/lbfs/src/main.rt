@@ -9,8 +9,10 @@
 #![tactic(auto)]
 
 mod front;
+mod person;
 
 use crate::front::run_front;
+use crate::person::shared_at;
 use exit_status::status::Status;
 use folder_store::folder::FolderStore;
 use host::host_files::HostFiles;
@@ -20,11 +22,14 @@ use host::streams::{ToldReader, ToldWriter};
 use host::tcp::{TcpNetwork, tell_taken};
 use host::time::{HostClock, HostRest};
 use host::told_store::ToldStore;
+use last_words::counted_network::CountedNetwork;
+use last_words::counted_store::CountedStore;
+use last_words::counts::Done;
 use lb_base::streams::{StreamSink, StreamSource};
 use lbfs_run::outside::Outside;
 use lbfs_run::run::status_of;
-use program_words::asked::Asked;
-use program_words::front::{Front, front_of, share_words};
+use program_words::asked::{Asked, ServeOptions};
+use program_words::front::{Front, ShareOptions, front_of, share_words};
 use program_words::refusal::refusal;
 use program_words::words::asked_of;
 use std::alloc::{AllocError, Global};
@@ -48,39 +53,32 @@ fn given_words(rt: &HostRuntime) -> io::Result<Vec<String>> {
     }
 }
 
-/// The folder that the words have served; none where they ask for something else.
-fn served_place(alloc: Global, words: &[String]) -> Result<Option<String>, AllocError> {
+/// What the words have served, and how; none where they ask for something else.
+fn options_of(alloc: Global, words: &[String]) -> Result<Option<ServeOptions>, AllocError> {
     match asked_of(alloc, words)? {
-        Some(Asked::Serve(options)) => Ok(Some(String::from_str(alloc, options.store.as_str())?)),
+        Some(Asked::Serve(options)) => Ok(Some(options)),
         _ => Ok(None),
     }
 }
 
-/// Whether the words have nothing flushed.
-fn is_unsynced(alloc: Global, words: &[String]) -> Result<bool, AllocError> {
-    match asked_of(alloc, words)? {
-        Some(Asked::Serve(options)) => Ok(options.unsynced),
-        _ => Ok(false),
-    }
-}
-
-/// What the words have served, for those who tell it and note its term.
-fn serving_of(alloc: Global, words: &[String]) -> Result<Option<Arc<Serving>>, AllocError> {
-    match asked_of(alloc, words)? {
-        Some(Asked::Serve(options)) => {
-            let serving = Serving::new(alloc, options.store.as_str(), options.term)?;
-            Ok(Some(Arc::new(alloc, serving)?))
-        }
-        _ => Ok(None),
-    }
-}
-
-/// One owner more of what is served.
-fn shared(serving: &Option<Arc<Serving>>) -> Result<Option<Arc<Serving>>, AllocError> {
-    let Some(serving) = serving else {
+/// What is served, for those who tell it and note its term.
+fn serving_of(
+    alloc: Global,
+    options: &Option<ServeOptions>,
+) -> Result<Option<Arc<Serving>>, AllocError> {
+    let Some(options) = options else {
         return Ok(None);
     };
-    match Arc::try_clone(serving) {
+    let serving = Serving::new(alloc, options.store.as_str(), options.term)?;
+    Ok(Some(Arc::new(alloc, serving)?))
+}
+
+/// One owner more of a value, where there is one.
+fn shared<T>(value: &Option<Arc<T>>) -> Result<Option<Arc<T>>, AllocError> {
+    let Some(value) = value else {
+        return Ok(None);
+    };
+    match Arc::try_clone(value) {
         Ok(more) => Ok(Some(more)),
         Err(_) => Err(AllocError),
     }
@@ -97,14 +95,6 @@ fn tell_record<D: Synced + Checks + Drop>(rt: &HostRuntime, store: D, place: &st
     }
 }
 
-/// The port at which the words have a folder served; none where they ask for something else.
-fn served_port(alloc: Global, words: &[String]) -> Result<Option<u16>, AllocError> {
-    match asked_of(alloc, words)? {
-        Some(Asked::Serve(options)) => Ok(Some(options.port)),
-        _ => Ok(None),
-    }
-}
-
 /// Whether another server has a folder, which is locked then.
 fn is_locked(rt: &HostRuntime, place: &str) -> bool {
     match fs::open(rt, place) {
@@ -115,16 +105,10 @@ fn is_locked(rt: &HostRuntime, place: &str) -> bool {
 
 /// Tells what is left to tell of a store that failed as it was opened. A folder that can't be read, or is locked, was
 /// told of then; where it is locked its server may have the port too.
-fn tell_store<D: Synced + Checks + Drop>(
-    rt: &HostRuntime,
-    words: &[String],
-    store: D,
-    place: &str,
-) {
+fn tell_store<D: Synced + Checks + Drop>(rt: &HostRuntime, store: D, options: &ServeOptions) {
+    let place = options.store.as_str();
     if is_locked(rt, place) {
-        if let Ok(Some(port)) = served_port(rt.alloc(), words) {
-            tell_taken(rt, port);
-        }
+        tell_taken(rt, options.port);
     } else if fs::read_dir(rt, place).is_ok() {
         tell_record(rt, store, place);
     }
@@ -135,7 +119,7 @@ fn tell_end<D: Synced + Checks + Drop>(
     rt: &HostRuntime,
     words: &[String],
     store: D,
-    place: &Option<String>,
+    options: &Option<ServeOptions>,
     status: Status,
 ) {
     match status {
@@ -147,23 +131,35 @@ fn tell_end<D: Synced + Checks + Drop>(
         Status::Memory => tell(rt, &Note::Memory),
         Status::NoThread => tell(rt, &Note::NoThread),
         Status::Store => {
-            if let Some(place) = place {
-                tell_store(rt, words, store, place.as_str());
+            if let Some(options) = options {
+                tell_store(rt, store, options);
             }
         }
         _ => {}
     }
 }
 
-/// What is served, if anything is: its folder, and what the store and the network know of it.
-type Served = (Option<String>, Option<Arc<Serving>>, Option<Arc<Serving>>);
+/// What is served, if anything is: how, and what the store and the network know of it.
+type Served = (
+    Option<ServeOptions>,
+    Option<Arc<Serving>>,
+    Option<Arc<Serving>>,
+);
 
 /// What `main` needs before it runs.
 fn served(alloc: Global, words: &[String]) -> Result<Served, AllocError> {
-    let place = served_place(alloc, words)?;
-    let serving = serving_of(alloc, words)?;
+    let options = options_of(alloc, words)?;
+    let serving = serving_of(alloc, &options)?;
     let more = shared(&serving)?;
-    Ok((place, serving, more))
+    Ok((options, serving, more))
+}
+
+/// Whether nothing is flushed.
+fn is_unsynced(options: &Option<ServeOptions>) -> bool {
+    match options {
+        Some(options) => options.unsynced,
+        None => false,
+    }
 }
 
 /// The clock of a server, or of a mount. A server's stands still while the host sleeps, so that its leases
@@ -182,6 +178,9 @@ fn starved(rt: &HostRuntime) -> ExitCode {
     ExitCode::from(Status::Memory.code())
 }
 
+/// What counts what was done, for the store and for the network.
+type Counting = (Option<Arc<Done>>, Option<Arc<Done>>);
+
 /// Runs the words behind the program's name over the outside, and ends with the status's number. Of the
 /// two stores the second is for what is told of the first.
 fn run<H: Threads + Wait + Sync, D: Synced + Checks + Drop + Send>(
@@ -189,33 +188,80 @@ fn run<H: Threads + Wait + Sync, D: Synced + Checks + Drop + Send>(
     rt: HostRuntime,
     words: &[String],
     stores: (D, D),
+    counting: Counting,
 ) -> ExitCode {
     let (store, again) = stores;
-    let Ok((place, serving, more)) = served(rt.alloc(), words) else {
+    let (changes, connections) = counting;
+    let Ok((options, serving, more)) = served(rt.alloc(), words) else {
         return starved(&rt);
     };
-    let Ok(unsynced) = is_unsynced(rt.alloc(), words) else {
-        return starved(&rt);
-    };
-    let mut store = ToldStore::new(rt, store, more);
-    if unsynced {
+    let mut store = CountedStore::new(handle, ToldStore::new(rt, store, more), changes);
+    if is_unsynced(&options) {
         store.leave_unflushed();
     }
+    let network = TcpNetwork::new(rt, rt.alloc(), serving);
     let outside = Outside {
         source: StreamSource::new(ToldReader::new(rt, rt.stdin())),
         sink: StreamSink::new(ToldWriter::new(rt, rt.stdout())),
         store,
         files: HostFiles::new(rt, process::id(rt.process())),
-        network: TcpNetwork::new(rt, rt.alloc(), serving),
-        clock: clock_for(rt, place.is_some()),
+        network: CountedNetwork::new(handle, network, connections),
+        clock: clock_for(rt, options.is_some()),
         rest: HostRest::new(rt),
     };
     let status = status_of(handle, rt.alloc(), words, outside);
-    tell_end(&rt, words, again, &place, status);
+    tell_end(&rt, words, again, &options, status);
     ExitCode::from(status.code())
 }
 
-/// Runs the words: a shell, or `share` by the words of `serve`, or those of `run`.
+/// What `share` needs before it runs: its words, and what counts.
+#[derive(Drop)]
+struct Sharing {
+    words: Vec<String>,
+    done: Option<Arc<Done>>,
+    changes: Option<Arc<Done>>,
+    connections: Option<Arc<Done>>,
+}
+
+/// What `share` needs by these options.
+fn share_over(rt: &HostRuntime, options: &ShareOptions) -> Result<Sharing, AllocError> {
+    let words = share_words(rt.alloc(), options)?;
+    let done = Some(shared_at(rt, options.store.as_str())?);
+    let changes = shared(&done)?;
+    let connections = shared(&done)?;
+    Ok(Sharing {
+        words,
+        done,
+        changes,
+        connections,
+    })
+}
+
+/// `share`: `serve` without end, by its words. What it did is said where a signal ends it, and not where it ends by
+/// itself.
+fn run_share<H: Threads + Wait + Sync, D: Synced + Checks + Drop + Send>(
+    handle: &H,
+    rt: HostRuntime,
+    options: &ShareOptions,
+    stores: (D, D),
+) -> ExitCode {
+    let Ok(sharing) = share_over(&rt, options) else {
+        return starved(&rt);
+    };
+    let Sharing {
+        words,
+        done,
+        changes,
+        connections,
+    } = sharing;
+    let code = run(handle, rt, words.as_slice(), stores, (changes, connections));
+    if let Some(done) = done {
+        done.end();
+    }
+    code
+}
+
+/// Runs the words: a shell, or `share`, or those of `run`.
 fn run_others<H: Threads + Wait + Sync>(
     handle: &H,
     rt: HostRuntime,
@@ -224,12 +270,9 @@ fn run_others<H: Threads + Wait + Sync>(
 ) -> ExitCode {
     let stores = (FolderStore::new(rt), FolderStore::new(rt));
     match front {
-        Some(Front::Share(options)) => match share_words(rt.alloc(), &options) {
-            Ok(words) => run(handle, rt, words.as_slice(), stores),
-            Err(AllocError) => starved(&rt),
-        },
+        Some(Front::Share(options)) => run_share(handle, rt, &options, stores),
         Some(Front::Shell(options)) => run_front(handle, rt, options),
-        None => run(handle, rt, words, stores),
+        None => run(handle, rt, words, stores, (None, None)),
     }
 }
 

@@ -63,6 +63,10 @@ pace_text g =
 abbrev pub progress_line : Glance → List ℕ
 progress_line g = codes "\r" ++ files_text g.tally.files g.left ++ codes ", " ++ size_text g.tally.bytes ++ codes "; " ++ pace_text g ++ (27 ∷ 91 ∷ 75 ∷ [])
 
+-- what is said of a command in the midst of which the program was ended
+abbrev pub stopped_line : Tally → (left : ℕ) → List ℕ
+stopped_line t left = codes "stopped: " ++ files_text t.files left ++ codes ", " ++ size_text t.bytes ++ codes "\n"
+
 -- ---- what is said beside it
 
 abbrev pub left_out_text : ℕ → List ℕ

@@ -9,6 +9,7 @@ use crate::outside::Outside;
 use crate::pool::Pool;
 use crate::tally::Tally;
 use crate::watching::watch;
+use last_words::keeping::Keeps;
 use links::clock::Clock;
 use links::rest::Rest;
 use shell_commands::visiting::visit;
@@ -35,7 +36,7 @@ pub(crate) struct Manner {
 }
 
 /// Does a task, and settles it.
-fn do_one<W: Wait, P: Screen, R: Remote, F: Folder>(
+fn do_one<W: Wait, P: Screen + Keeps, R: Remote, F: Folder>(
     rt: &W,
     alloc: Global,
     pool: &Pool,
@@ -51,7 +52,7 @@ fn do_one<W: Wait, P: Screen, R: Remote, F: Folder>(
 }
 
 /// Does the tasks as long as there is one alone.
-fn begin<W: Wait, P: Screen, R: Remote, F: Folder>(
+fn begin<W: Wait, P: Screen + Keeps, R: Remote, F: Folder>(
     rt: &W,
     alloc: Global,
     pool: &Pool,
@@ -82,7 +83,7 @@ fn next_task<W: Wait, R: Remote>(rt: &W, alloc: Global, pool: &Pool, remote: &mu
 }
 
 /// Does tasks until all are done.
-fn work<W: Wait, P: Screen, R: Remote, F: Folder>(
+fn work<W: Wait, P: Screen + Keeps, R: Remote, F: Folder>(
     rt: &W,
     alloc: Global,
     pool: &Pool,
@@ -101,7 +102,7 @@ fn work<W: Wait, P: Screen, R: Remote, F: Folder>(
 }
 
 /// Does tasks on a connection of its own.
-fn help_out<W: Wait, P: Screen, H: Folders, D: Dials, C: Clock, T>(
+fn help_out<W: Wait, P: Screen + Keeps, H: Folders, D: Dials, C: Clock, T>(
     rt: &W,
     alloc: Global,
     pool: &Pool,
@@ -123,7 +124,7 @@ fn call_others<
     's,
     'e,
     W: Threads + Wait + Sync,
-    P: Screen + Sync,
+    P: Screen + Keeps + Sync,
     H: Folders + Sync,
     D: Dials + Sync,
     C: Clock + Sync,
@@ -181,7 +182,7 @@ where
 fn run_crew<
     'x,
     W: Threads + Wait + Sync,
-    P: Screen + Sync,
+    P: Screen + Keeps + Sync,
     H: Folders + Sync,
     D: Dials + Sync,
     C: Clock + Sync,
@@ -207,6 +208,7 @@ where
         move |scope|
             requires { IsSend D.L.row × IsSend H.F.row }
         {
+            pool.begin(rt, alloc, &out.screen);
             call_watcher(scope, rt, alloc, pool, out, manner);
             begin(rt, alloc, pool, &out.screen, remote, folder);
             if pool.goes_on(rt) {
@@ -221,7 +223,7 @@ where
 /// Does a task with all that come of it; none where memory ran out. What wasn't done is said as it happens.
 pub(crate) fn run_task<
     W: Threads + Wait + Sync,
-    P: Screen + Sync,
+    P: Screen + Keeps + Sync,
     H: Folders + Sync,
     D: Dials + Sync,
     C: Clock + Sync,

@@ -3,7 +3,8 @@
 //! behind each.
 
 use crate::tally::Tally;
-use crate::telling::{Glance, left_out_text, progress_line};
+use crate::telling::{Glance, left_out_text, progress_line, stopped_line};
+use last_words::keeping::Keeps;
 use lb_base::items::Items;
 use shell_commands::visiting::Visited;
 use shell_walks::screen::Screen;
@@ -85,8 +86,18 @@ impl Jobs {
         }
     }
 
+    /// How far it is, is to be said where the program is ended now.
+    fn keep<P: Keeps>(&self, alloc: Global, screen: &P) {
+        if self.is_quiet {
+            return;
+        }
+        if let Ok(line) = stopped_line(alloc, self.tally, self.left()) {
+            screen.keep(line.as_slice());
+        }
+    }
+
     /// What a task came to.
-    fn note_done<P: Screen>(&mut self, alloc: Global, screen: &P, visited: Visited) {
+    fn note_done<P: Screen + Keeps>(&mut self, alloc: Global, screen: &P, visited: Visited) {
         self.busy = self.busy.saturating_sub(1);
         self.tally = self.tally.with(&visited);
         if !self.is_quiet {
@@ -98,6 +109,7 @@ impl Jobs {
         if is_off || self.is_starved {
             self.give_up(alloc, screen);
         }
+        self.keep(alloc, screen);
     }
 }
 
@@ -118,6 +130,11 @@ impl Pool {
             }),
             news: Condvar::new(),
         })
+    }
+
+    /// It is begun: how far it is, is to be said where the program is ended.
+    pub(crate) fn begin<W: Wait, P: Keeps>(&self, rt: &W, alloc: Global, screen: &P) {
+        self.jobs.lock(rt).keep(alloc, screen);
     }
 
     /// The next task; none once all are done.
@@ -156,7 +173,7 @@ impl Pool {
     }
 
     /// A task was done.
-    pub(crate) fn note_done<W: Wait, P: Screen>(
+    pub(crate) fn note_done<W: Wait, P: Screen + Keeps>(
         &self,
         rt: &W,
         alloc: Global,
@@ -187,11 +204,12 @@ impl Pool {
         self.jobs.lock(rt).is_over
     }
 
-    /// All is done: the line that says how far it is goes, and isn't shown again.
-    pub(crate) fn end<W: Wait, P: Screen>(&self, rt: &W, screen: &P) {
+    /// All is done: the line that says how far it is goes, and isn't shown again, nor said at an end.
+    pub(crate) fn end<W: Wait, P: Screen + Keeps>(&self, rt: &W, screen: &P) {
         let mut jobs = self.jobs.lock(rt);
         jobs.is_over = true;
         jobs.erase(screen);
+        screen.keep(b"\n");
     }
 
     /// Shows how far it is, unless all is done.

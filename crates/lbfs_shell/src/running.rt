@@ -10,6 +10,7 @@ use crate::outside::Outside;
 use crate::saying::{Flow, read_end, tell, write};
 use crate::telling::{end_line, line_text, prompt_text};
 use exit_status::shell_end::ShellEnd;
+use last_words::keeping::Keeps;
 use lb_base::items::{Items, Name};
 use lb_base::sink::Sink;
 use lb_base::source::Source;
@@ -59,7 +60,7 @@ struct Seat<R, F> {
 /// A task with all that come of it, and the line at its end.
 fn run_all<
     W: Threads + Wait + Sync,
-    P: Screen + Sync,
+    P: Screen + Keeps + Sync,
     H: Folders + Sync,
     D: Dials + Sync,
     C: Clock + Sync,
@@ -146,7 +147,7 @@ fn run_help<P: Screen, K: Sink>(
 /// A command.
 fn do_line<
     W: Threads + Wait + Sync,
-    P: Screen + Sync,
+    P: Screen + Keeps + Sync,
     H: Folders + Sync,
     D: Dials + Sync,
     C: Clock + Sync,
@@ -188,7 +189,7 @@ where
 /// A command. Behind it the connection gives up its leases: nobody answers a RECALL before the next.
 fn run_command<
     W: Threads + Wait + Sync,
-    P: Screen + Sync,
+    P: Screen + Keeps + Sync,
     H: Folders + Sync,
     D: Dials + Sync,
     C: Clock + Sync,
@@ -229,20 +230,20 @@ fn line_of(alloc: Global, text: &[u8], first: &mut Name) -> Result<Option<Line>,
     }
 }
 
-/// A mistake in a line whose first word is this, if any was read, is said.
-fn say_mistake<P: Screen>(
+/// These words are said of a line whose first word is this, if any was read.
+fn say_of<P: Screen>(
     alloc: Global,
     screen: &P,
     number: u64,
     first: &[u8],
-    mistake: Mistake,
+    words: &[u8],
 ) -> Result<Flow, ShellEnd>
     ensures { IfErr result (λ e. e ≡ ends.Memory) }
 {
     let Ok(about) = line_text(alloc, number, first) else {
         return Err(ShellEnd::Memory);
     };
-    match note_line(alloc, about.as_slice(), mistake_words(mistake)) {
+    match note_line(alloc, about.as_slice(), words) {
         Ok(note) => {
             screen.say(note.as_slice());
             Ok(Flow::Undone)
@@ -251,10 +252,28 @@ fn say_mistake<P: Screen>(
     }
 }
 
+/// What is said of a line that wasn't done, behind what is said of the names in it.
+const UNDONE: &[u8] = b"not done, or not wholly";
+
+/// Which line wasn't done is said, unless lines are typed.
+fn say_undone<P: Screen>(
+    alloc: Global,
+    screen: &P,
+    number: u64,
+    first: &[u8],
+) -> Result<Flow, ShellEnd>
+    ensures { IfErr result (λ e. e ≡ ends.Memory) }
+{
+    if screen.is_typed() {
+        return Ok(Flow::Undone);
+    }
+    say_of(alloc, screen, number, first, UNDONE)
+}
+
 /// A line of the input, numbered from 1.
 fn run_text<
     W: Threads + Wait + Sync,
-    P: Screen + Sync,
+    P: Screen + Keeps + Sync,
     H: Folders + Sync,
     D: Dials + Sync,
     C: Clock + Sync,
@@ -280,10 +299,14 @@ where
 {
     let mut first = Items::new(alloc);
     match line_of(alloc, text, &mut first) {
-        Ok(Some(line)) => run_command(rt, alloc, out, asked, seat, sink, &line),
+        Ok(Some(line)) => match run_command(rt, alloc, out, asked, seat, sink, &line) {
+            Ok(Flow::Undone) => say_undone(alloc, &out.screen, number, first.as_slice()),
+            other => other,
+        },
         Ok(None) => Ok(Flow::Done),
         Err(ReadError::Mistaken(mistake)) => {
-            say_mistake(alloc, &out.screen, number, first.as_slice(), mistake)
+            let words = mistake_words(mistake);
+            say_of(alloc, &out.screen, number, first.as_slice(), words)
         }
         Err(ReadError::Memory) => Err(ShellEnd::Memory),
     }
@@ -312,7 +335,7 @@ fn end_of(is_fine: bool) -> ShellEnd
 /// The lines of the input, to its end or to `bye`.
 fn run_lines<
     W: Threads + Wait + Sync,
-    P: Screen + Sync,
+    P: Screen + Keeps + Sync,
     H: Folders + Sync,
     D: Dials + Sync,
     C: Clock + Sync,
@@ -365,7 +388,7 @@ where
 /// The words of the one command.
 fn run_once<
     W: Threads + Wait + Sync,
-    P: Screen + Sync,
+    P: Screen + Keeps + Sync,
     H: Folders + Sync,
     D: Dials + Sync,
     C: Clock + Sync,
@@ -528,7 +551,7 @@ fn save_cache<P: Screen, R: Remote, F: Folder>(
 /// Runs the one command. `help` wants no server.
 fn run_one<
     W: Threads + Wait + Sync,
-    P: Screen + Sync,
+    P: Screen + Keeps + Sync,
     H: Folders + Sync,
     D: Dials + Sync,
     C: Clock + Sync,
@@ -569,7 +592,7 @@ where
 /// Runs the lines of the input.
 fn run_all_lines<
     W: Threads + Wait + Sync,
-    P: Screen + Sync,
+    P: Screen + Keeps + Sync,
     H: Folders + Sync,
     D: Dials + Sync,
     C: Clock + Sync,
@@ -606,7 +629,7 @@ where
 /// which was said; with the others where it could go on no further.
 pub fn run_shell<
     W: Threads + Wait + Sync,
-    P: Screen + Sync,
+    P: Screen + Keeps + Sync,
     H: Folders + Sync,
     D: Dials + Sync,
     C: Clock + Sync,

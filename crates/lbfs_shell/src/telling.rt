@@ -1,7 +1,7 @@
 //! The lines that say how far a command is, and what it came to: `specs/Telling.antt`.
 
 ghost use Rattle.std.specs.Prelude.{◌≡◌, ◌++◌, IfOk, OnOk, codes, decimal};
-ghost use Rattle.lbfs_shell.specs.Telling.{count_text, big_text, middle_text, size_text, end_line, rate_text, left_of, left_text, files_text, line_part, pace_text, progress_line, left_out_text};
+ghost use Rattle.lbfs_shell.specs.Telling.{count_text, big_text, middle_text, size_text, end_line, rate_text, left_of, left_text, files_text, line_part, pace_text, progress_line, left_out_text, stopped_line};
 ghost use Rattle.lbfs_shell.specs.Telling.{prompt_text, number_text, line_text};
 
 use crate::tally::Tally;
@@ -179,6 +179,20 @@ pub(crate) fn progress_line(alloc: Global, glance: Glance) -> Result<Bytes, Allo
     out.extend_from_slice(b"; ")?;
     out.extend_from_slice(pace.as_slice())?;
     out.extend_from_slice(b"\x1b[K")?;
+    Ok(out)
+}
+
+/// What is said of a command in the midst of which the program was ended.
+pub(crate) fn stopped_line(alloc: Global, tally: Tally, left: u64) -> Result<Bytes, AllocError>
+    ensures { IfOk result (λ text. text ≡ stopped_line tally left) }
+{
+    let files = files_text(alloc, tally.files, left)?;
+    let contents = size_text(alloc, tally.bytes)?;
+    let mut out = Items::copy_of(alloc, b"stopped: ")?;
+    out.extend_from_slice(files.as_slice())?;
+    out.extend_from_slice(b", ")?;
+    out.extend_from_slice(contents.as_slice())?;
+    out.extend_from_slice(b"\n")?;
     Ok(out)
 }
 
