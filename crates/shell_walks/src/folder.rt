@@ -13,6 +13,8 @@ use std::alloc::Global;
 pub enum LocalFault {
     /// There is none.
     Missing,
+    /// The folder that it is to be in isn't there.
+    NoFolder,
     /// It is there already.
     Exists,
     /// It is a folder.

@@ -4,7 +4,8 @@
 ghost use Rattle.std.specs.Prelude.{◌≡◌, ◌+◌, ◌-◌, ◌++◌, ◌∷◌, [], IfOk, OnOk, codes, decimal, length, replicate};
 ghost use Rattle.shell_walks.specs.declared.remote.Why.TheVariants as whys;
 ghost use Rattle.shell_words.specs.Quoting.{quoted};
-ghost use Rattle.shell_walks.specs.Telling.{status_words, status_text, why_text, fault_text, mistake_text, slashed, path_text, note_line, names_text, padded, kind_text, long_line, stat_text, why_of, unstored_text, is_dir, refused_told, done_told, removed_told, names_told, stat_told};
+ghost use Rattle.shell_walks.specs.Telling.{status_words, status_text, why_text, fault_text, mistake_text, slashed, path_text, note_line, names_text, padded, kind_text, long_line, stat_text, why_of};
+ghost use Rattle.shell_walks.specs.Telling.{unstored_text, is_dir, refused_told, done_told, removed_told, names_told, stat_told};
 
 use crate::folder::LocalFault;
 use crate::remote::{Answer, Seen, Why};
@@ -43,7 +44,7 @@ fn status_words(status: u32) -> &'static [u8]
         17 => b"it is there already",
         20 => b"not a directory",
         21 => b"it is a directory",
-        22 => b"that can't be",
+        22 => b"no directory can go into itself, and the root is there and stays",
         27 => b"the file is too large (64 MiB are the most)",
         28 => b"the server has no more room",
         63 => b"the name is too long",
@@ -124,6 +125,7 @@ pub fn fault_words(fault: LocalFault) -> &'static [u8]
 {
     match fault {
         LocalFault::Missing => b"no such file or folder here",
+        LocalFault::NoFolder => b"its folder isn't here",
         LocalFault::Exists => b"it is here already",
         LocalFault::IsFolder => b"it is a folder here",
         LocalFault::NotDeep => b"it is a folder here (put -r stores folders)",
@@ -149,14 +151,14 @@ pub fn mistake_words(mistake: Mistake) -> &'static [u8]
         Mistake::BadEscape => b"a backslash stands before what it gives no meaning",
         Mistake::OpenQuote => b"a quote isn't closed",
         Mistake::Unknown => b"there is no such command (help lists them)",
-        Mistake::BadOption => b"there is no such option",
+        Mistake::BadOption => b"there is no such option (help COMMAND lists them)",
         Mistake::NoVersions => {
             b"storing over one version alone isn't there yet: servers have no call for it"
         }
         Mistake::NoPath => b"PATH is wanting",
         Mistake::NoSecondPath => b"a second PATH is wanting",
         Mistake::NoLocal => b"LOCAL is wanting",
-        Mistake::TooMany => b"there is a word too many",
+        Mistake::TooMany => b"there is a word too many (one name at a time)",
         Mistake::LongName => b"a name is too long",
         Mistake::LongPath => b"a path has too many names",
     }
