@@ -42,8 +42,8 @@ def listens(port):
 
 def heed_signals():
     """What a program is started with: it ends by the signals of a terminal, though they be ignored here, as they are in
-    the background of a shell."""
-    for number in (signal.SIGINT, signal.SIGQUIT):
+    the background of a shell, and under nohup."""
+    for number in (signal.SIGINT, signal.SIGQUIT, signal.SIGHUP):
         signal.signal(number, signal.SIG_DFL)
 
 
