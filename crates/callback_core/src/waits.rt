@@ -1,7 +1,7 @@
 //! The pending changes, and the leases that they wait for. `specs/Waits.antt` has the words of the
 //! contracts.
 
-ghost use Rattle.std.specs.Prelude.{◌≡◌, ◌+◌, ◌<◌, ◌≤◌, ◌^◌, ◌∷◌, ◌++◌, [], OnOk, OnErr, IfOk, IsOk, IsSome, IsTrue, ◌↔◌, is_some, ◌⊎◌, option_copied, false, length};
+ghost use Rattle.std.specs.Prelude.{◌≡◌, ◌+◌, ◌<◌, ◌≤◌, ◌^◌, ◌∷◌, ◌++◌, [], OnOk, OnErr, IfOk, IsOk, IsSome, IsTrue, ◌↔◌, ◌⊎◌, option_copied, false, length};
 ghost use Rattle.lease_table.specs.Leases.{grant, without_lease, marked, without_recalled, without_ended, without_session, is_blocked, others, lease_at};
 ghost use Rattle.callback_core.specs.BackCalls.{all_marked};
 ghost use Rattle.callback_core.specs.Waits.{recalls_due, recalls_of, ready, change_of, has_wait, waits_on, without, without_made, places_of, entries_of, bytes_of, IsAnswered};
@@ -303,14 +303,6 @@ impl<P: Drop> Waits<P> {
         ensures { IsTrue result ↔ (self.now.waits ≡ []) }
     {
         self.waits.is_empty()
-    }
-
-    /// Whether the session has a lease on the file, recalled or not, and ended or not. It takes no
-    /// memory.
-    pub fn has_lease(&self, session: u32, file: u64) -> bool
-        ensures { result ≡ is_some (lease_at self.now.leases session file) }
-    {
-        self.leases.has(session, file)
     }
 
     /// Whether a lease of another session than this one on the file has not ended at this reading

@@ -1,7 +1,7 @@
 //! Where the bytes of a chunk may be found. `specs/Placed.antt` states which bytes lie at a place.
 
 /// A range of a file, which may not be there, nor have so many bytes.
-#[derive(Clone, Copy, Debug, PartialEq, Eq)]
+#[derive(Clone, Copy)]
 pub struct Place {
     /// The id of the file.
     pub file: u64,

@@ -1,4 +1,5 @@
-//! What is kept of a file. `specs/Cache.antt` states of how many, and what goes first.
+//! What is kept of a file: its content, and the note of a lease. Of how many files, and which goes
+//! first, says `specs/Cache.antt`.
 
 use cut_bytes::CutBytes;
 

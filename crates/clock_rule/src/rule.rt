@@ -76,7 +76,7 @@ pub enum Reading {
 }
 
 /// Why a reading was not taken: the server's, or a client's at an event, which is then not noted.
-#[derive(Clone, Copy, Debug, Drop)]
+#[derive(Clone, Copy, Drop)]
 pub enum NoteError {
     /// It breaks the rule: the server's reading fell, the client's did, or the server's clock went on
     /// too far.

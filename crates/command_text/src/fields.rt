@@ -1,4 +1,5 @@
-//! What the words of a line stand for: `specs/Fields.antt`.
+//! Words that are a number, an id (`#N`) or a name: `specs/Fields.antt`. Words by themselves are
+//! `words.rt`'s, commands `command.rt`'s.
 
 ghost use Rattle.std.specs.Prelude.{◌≡◌, ℕ, ◌+◌, ◌-◌, ◌*◌, ◌<◌, ◌≤◌, ◌^◌, ◌==◌, true, List, [], ◌∷◌, length, MatchOption};
 ghost use Rattle.std.specs.List.{list_all};

@@ -6,7 +6,7 @@ ghost use Rattle.command_text.specs.declared.line_error.LineError.TheVariants as
 use std::alloc::{AllocError, AllocFailed};
 
 /// Why a line was not read.
-#[derive(Clone, Copy, Debug, Drop)]
+#[derive(Clone, Copy, Drop)]
 pub enum LineError {
     /// It is not in the grammar.
     BadLine,

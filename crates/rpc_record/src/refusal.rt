@@ -42,7 +42,7 @@ impl From<AllocError> for MarkError {
 }
 
 /// Why a record does not begin with the header that was asked for.
-#[derive(Clone, Copy, Debug, Drop)]
+#[derive(Clone, Copy, Drop)]
 pub enum HeaderError {
     /// An item of the header could not be read, or is the type of the other header.
     Xdr(Fault),

@@ -1,4 +1,5 @@
-//! A store that tells what is wrong with what it keeps, and leaves it as it is.
+//! The trait of a store that can be looked over (`check`): it tells what is wrong with its records, and
+//! leaves them as they are. It stands beside `Synced`, since a run asks both of its store.
 
 ghost use Rattle.std.specs.Prelude.{◌≡◌, ℕ, ◌≤◌, List, [], Some, IfOk, OnOk, IsErrOf};
 ghost use Rattle.lb_base.specs.Causes.{Rose};

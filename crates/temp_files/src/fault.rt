@@ -8,7 +8,7 @@ use std::alloc::{AllocError, AllocFailed};
 use xdr_codec::status::Status;
 
 /// Why a call is refused.
-#[derive(Clone, Copy, Debug)]
+#[derive(Clone, Copy)]
 pub enum TempError {
     /// The session has a temporary file under this number.
     FdInUse,

@@ -1,10 +1,9 @@
 //! The chunks of a file, which are asked for in order, and what has come of them: `specs/Chunks.antt`.
 
-ghost use Rattle.std.specs.Prelude.{◌≡◌, ◌<◌, length, Some, slice_get, slice_set};
+ghost use Rattle.std.specs.Prelude.{◌≡◌, slice_get};
 ghost use Rattle.transfer_rules.specs.Chunks.{all_came};
 
 use chunk_cut::chunk::Chunk;
-use lb_base::items::{Bytes, Items};
 
 /// A copy of the chunk at this place, if it is there.
 pub fn chunk_at(chunks: &[Chunk], place: usize) -> Option<Chunk>
@@ -25,14 +24,4 @@ pub fn all_came<T>(under: &[T], asked: usize, count: usize) -> bool
     ensures { result ≡ all_came under.now asked count }
 {
     asked == count && under.is_empty()
-}
-
-/// The bytes of the chunk at this place have come: its slot has them. It takes no memory.
-pub fn filled(slots: Items<Option<Bytes>>, place: usize, bytes: Bytes) -> Items<Option<Bytes>>
-    requires { place < length slots }
-    ensures { result ≡ slice_set slots place (Some bytes) }
-{
-    let mut slots = slots.into_vec();
-    slots[place] = Some(bytes);
-    Items::from_vec(slots)
 }

@@ -21,7 +21,7 @@ pub enum WireFault {
 }
 
 /// Why no message was read.
-#[derive(Clone, Copy, Debug, Drop)]
+#[derive(Clone, Copy, Drop)]
 pub enum WireError {
     /// Memory ran out; the record may be a message.
     Memory,

@@ -51,7 +51,7 @@ pub enum Fault {
 }
 
 /// Why nothing was read.
-#[derive(Clone, Copy, Debug, Drop)]
+#[derive(Clone, Copy, Drop)]
 pub enum ReadError {
     /// Memory ran out.
     Memory,

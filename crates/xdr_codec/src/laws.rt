@@ -1,4 +1,5 @@
-//! What holds of every format. `specs/Exact.antt` states it.
+//! What holds of every format (how a value is spelled in bytes and read again, `item.rt`):
+//! `specs/Exact.antt`.
 
 ghost use Rattle.xdr_codec.specs.Exact.{IsExact};
 
