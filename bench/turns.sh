@@ -178,4 +178,5 @@ worked_at() {
 
 echo "an empty turn of one thread: $(clocked 1 4000000) ns"
 echo "an empty turn, 16 threads: $(clocked 16 200000) ns"
-echo "a turn of 1 ms, 64 threads: $(worked_at 64 50 1000) us of a processor"
+# So many that each thread runs out of patience several times: 63 others sleep 32 times each within 2,016 turns.
+echo "a turn of 1 ms, 64 threads: $(worked_at 64 200 1000) us of a processor"
