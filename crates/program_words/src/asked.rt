@@ -96,8 +96,7 @@ impl StorePath {
 pub struct ServeOptions {
     /// The port at which clients dial.
     pub port: u16,
-    /// `--term`: how long a lease is to last, in milliseconds. Checked, and not used until leases are
-    /// served.
+    /// `--term`: how long a lease is to last, in milliseconds.
     pub term: u64,
     /// After how many sessions the server ends.
     pub sessions: u32,

@@ -8,7 +8,7 @@ ghost use Rattle.program_words.specs.Words.{given, is_set};
 ghost use Rattle.program_words.specs.Front.{given_or, values_of, shell_of, share_of, front_named_of, front_entered_of, front_of, share_words};
 
 use crate::asked::{PORT_MOST, StorePath};
-use crate::front_line::front;
+use crate::line::{front, matches_of};
 use crate::words::{cache_of, first, given, is_set};
 use clap::ArgMatches;
 use clap::error::ErrorKind;
@@ -171,8 +171,7 @@ fn front_entered_of(alloc: Global, matches: &ArgMatches) -> Result<Option<Front>
 pub fn front_of(alloc: Global, words: &[String]) -> Result<Option<Front>, AllocError>
     ensures { IfOk result (λ front. front ≡ front_of (map (λ w. string_bytes w) words.now)) }
 {
-    let line = front(alloc)?;
-    match line.try_get_matches_from(words) {
+    match matches_of(alloc, front(), words) {
         Ok(matches) => front_entered_of(alloc, &matches),
         Err(error) if error.kind() == ErrorKind::OutOfMemory => Err(AllocError),
         Err(_) => Ok(None),

@@ -4,7 +4,6 @@
 
 pub mod asked;
 pub mod front;
-mod front_line;
 mod line;
 pub mod refusal;
 pub mod words;

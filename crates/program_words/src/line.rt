@@ -1,149 +1,174 @@
-//! The command line as `clap` is told it: `lbfs` of `specs/Line.antt`.
+//! The command line as `clap` is told it: `program` of `specs/Table.antt`, of the commands in a table.
 
-ghost use Rattle.std.specs.Prelude.{◌≡◌, IfOk, true, false};
-ghost use Rattle.clap.specs.Words.{App, Rule, app_of, rule_of, with_rule, with_subcommand};
-ghost use Rattle.program_words.specs.Line.{optional, required, flag, placed, replay, gen, serve, mount, check, lbfs, named, with_commands};
+ghost use Rattle.std.specs.Prelude.{◌≡◌, IfOk, map, string_bytes, true, false};
+ghost use Rattle.clap.specs.Words.{FailsBy, HasMatchesOf, app_of, fault_of, is_simple_and_free, rule_of};
+ghost use Rattle.program_words.specs.FrontLine.{front};
+ghost use Rattle.program_words.specs.Line.{lbfs};
+ghost use Rattle.program_words.specs.Table.{command, program, rule};
 
-use clap::{Arg, ArgAction, Command};
+use clap::{Arg, ArgAction, ArgMatches, Command, Error};
 use std::alloc::{AllocError, Global};
 
-/// An option with one value, which may be left out.
-pub(crate) fn optional<'a>(alloc: Global, name: &'a str) -> Arg<'a>
-    ensures rule { rule_of result ≡ optional name.entry.now }
-    ensures own { result.global ≡ false }
-{
-    Arg::new(alloc, name).long(name).action(ArgAction::Set)
+/// What an argument is.
+#[derive(Clone, Copy)]
+enum Kind {
+    /// An option with one value, which may be left out.
+    Optional,
+    /// An option with one value, which is wanted.
+    Required,
+    /// A flag.
+    Flag,
+    /// A word in its place, which is wanted.
+    Placed,
+    /// All words that are left, whatever they begin with.
+    Rest,
 }
 
-/// An option with one value, which is wanted.
-pub(crate) fn required<'a>(alloc: Global, name: &'a str) -> Arg<'a>
-    ensures rule { rule_of result ≡ required name.entry.now }
-    ensures own { result.global ≡ false }
-{
-    Arg::new(alloc, name)
-        .long(name)
-        .required(true)
-        .action(ArgAction::Set)
+/// A command of the program: its name, and its arguments.
+#[derive(Clone, Copy)]
+pub(crate) struct Line {
+    name: &'static str,
+    args: &'static [(&'static str, Kind)],
 }
 
-/// A flag.
-pub(crate) fn flag<'a>(alloc: Global, name: &'a str) -> Arg<'a>
-    ensures rule { rule_of result ≡ flag name.entry.now }
-    ensures own { result.global ≡ false }
+/// The commands for programs: `lbfs` of `specs/Line.antt`.
+static LBFS: [Line; 7] = [
+    Line {
+        name: "replay",
+        args: &[
+            ("summary", Kind::Flag),
+            ("seed", Kind::Optional),
+            ("blocks", Kind::Optional),
+        ],
+    },
+    Line {
+        name: "gen",
+        args: &[("seed", Kind::Placed), ("blocks", Kind::Placed)],
+    },
+    Line {
+        name: "cut",
+        args: &[],
+    },
+    Line {
+        name: "show",
+        args: &[],
+    },
+    Line {
+        name: "serve",
+        args: &[
+            ("port", Kind::Required),
+            ("term", Kind::Required),
+            ("sessions", Kind::Required),
+            ("store", Kind::Required),
+            ("unsynced", Kind::Flag),
+        ],
+    },
+    Line {
+        name: "mount",
+        args: &[
+            ("port", Kind::Required),
+            ("drift", Kind::Required),
+            ("cache", Kind::Optional),
+            ("keep", Kind::Optional),
+        ],
+    },
+    Line {
+        name: "check",
+        args: &[("store", Kind::Required)],
+    },
+];
+
+/// The commands for people: `front` of `specs/FrontLine.antt`.
+static FRONT: [Line; 2] = [
+    Line {
+        name: "shell",
+        args: &[
+            ("port", Kind::Required),
+            ("links", Kind::Optional),
+            ("cache", Kind::Optional),
+            ("quiet", Kind::Flag),
+            ("command", Kind::Rest),
+        ],
+    },
+    Line {
+        name: "share",
+        args: &[
+            ("dir", Kind::Placed),
+            ("port", Kind::Optional),
+            ("term", Kind::Optional),
+            ("unsynced", Kind::Flag),
+        ],
+    },
+];
+
+/// All commands for programs.
+#[tactic(auto, unfolding(crate::specs::Line::lbfs, crate::specs::Table::command))]
+pub(crate) fn lbfs() -> &'static [Line]
+    ensures { program result.now ≡ lbfs }
 {
-    Arg::new(alloc, name).long(name).action(ArgAction::SetTrue)
+    &LBFS
 }
 
-/// A word in its place, which is wanted.
-pub(crate) fn placed<'a>(alloc: Global, name: &'a str) -> Arg<'a>
-    ensures rule { rule_of result ≡ placed name.entry.now }
-    ensures own { result.global ≡ false }
+/// All commands for people.
+#[tactic(auto, unfolding(crate::specs::FrontLine::front, crate::specs::Table::command))]
+pub(crate) fn front() -> &'static [Line]
+    ensures { program result.now ≡ front }
 {
-    Arg::new(alloc, name).required(true).action(ArgAction::Set)
+    &FRONT
 }
 
-/// A command with one argument more; where there is none, its error is handed on.
-pub(crate) fn with<'a>(
-    command: Result<Command<'a>, AllocError>,
-    arg: Arg<'a>,
-) -> Result<Command<'a>, AllocError>
-    requires { arg.global ≡ false }
-    ensures { (a : App) (r : Rule) → rule_of arg.entry ≡ r → IfOk command.entry (λ c. app_of c ≡ a)
-        → IfOk result (λ c. app_of c ≡ with_rule a r) }
+/// An argument.
+fn arg_of<'a>(alloc: Global, name: &'a str, kind: Kind) -> Arg<'a>
+    ensures rule { rule_of result ≡ rule kind name.entry.now }
+    ensures own { result.global ≡ false }
 {
-    // Errors are handed on by a `match`, which is proved more cheaply than `?` (docs/PROVING.md, Code).
-    match command {
-        Ok(command) => command.arg(arg),
-        Err(error) => Err(error),
+    let arg = Arg::new(alloc, name);
+    match kind {
+        Kind::Optional => arg.long(name).action(ArgAction::Set),
+        Kind::Required => arg.long(name).required(true).action(ArgAction::Set),
+        Kind::Flag => arg.long(name).action(ArgAction::SetTrue),
+        Kind::Placed => arg.required(true).action(ArgAction::Set),
+        Kind::Rest => arg.action(ArgAction::Append).trailing_var_arg(true),
     }
 }
 
-/// `replay` and its options.
-fn replay_line<'a>(alloc: Global) -> Result<Command<'a>, AllocError>
-    ensures { IfOk result (λ c. app_of c ≡ replay) }
+/// A command with its arguments.
+#[tactic(auto, unfolding(crate::specs::Table::command))]
+fn command_of<'a>(alloc: Global, line: Line) -> Result<Command<'a>, AllocError>
+    ensures { IfOk result (λ c. app_of c ≡ command line) }
 {
-    let command = with(Ok(Command::new(alloc, "replay")), flag(alloc, "summary"));
-    let command = with(command, optional(alloc, "seed"));
-    with(command, optional(alloc, "blocks"))
-}
-
-/// `gen` and its words.
-fn gen_line<'a>(alloc: Global) -> Result<Command<'a>, AllocError>
-    ensures { IfOk result (λ c. app_of c ≡ gen) }
-{
-    let command = with(Ok(Command::new(alloc, "gen")), placed(alloc, "seed"));
-    with(command, placed(alloc, "blocks"))
-}
-
-/// `serve` and its options.
-fn serve_line<'a>(alloc: Global) -> Result<Command<'a>, AllocError>
-    ensures { IfOk result (λ c. app_of c ≡ serve) }
-{
-    let command = with(Ok(Command::new(alloc, "serve")), required(alloc, "port"));
-    let command = with(command, required(alloc, "term"));
-    let command = with(command, required(alloc, "sessions"));
-    let command = with(command, required(alloc, "store"));
-    with(command, flag(alloc, "unsynced"))
-}
-
-/// `mount` and its options.
-fn mount_line<'a>(alloc: Global) -> Result<Command<'a>, AllocError>
-    ensures { IfOk result (λ c. app_of c ≡ mount) }
-{
-    let command = with(Ok(Command::new(alloc, "mount")), required(alloc, "port"));
-    let command = with(command, required(alloc, "drift"));
-    let command = with(command, optional(alloc, "cache"));
-    with(command, optional(alloc, "keep"))
-}
-
-/// `check` and its option.
-fn check_line<'a>(alloc: Global) -> Result<Command<'a>, AllocError>
-    ensures { IfOk result (λ c. app_of c ≡ check) }
-{
-    with(Ok(Command::new(alloc, "check")), required(alloc, "store"))
-}
-
-/// A command with a command more below it; an error of either is `AllocError`.
-pub(crate) fn below<'a>(
-    above: Result<Command<'a>, AllocError>,
-    command: Result<Command<'a>, AllocError>,
-) -> Result<Command<'a>, AllocError>
-    ensures { (a b : App) → b.top.is_plain ≡ true → IfOk above.entry (λ c. app_of c ≡ a)
-        → IfOk command.entry (λ c. app_of c ≡ b)
-        → IfOk result (λ c. app_of c ≡ with_subcommand a b.top) }
-{
-    match (above, command) {
-        (Ok(above), Ok(command)) => above.subcommand(command),
-        _ => Err(AllocError),
+    let all = line.args;
+    let mut command = Command::new(alloc, line.name);
+    for arg in all {
+        command = command.arg(arg_of(alloc, arg.0, arg.1))?;
     }
+    Ok(command)
 }
 
-/// The program, with no command yet.
-pub(crate) fn named<'a>(alloc: Global) -> Command<'a>
-    ensures { app_of result ≡ named }
+/// The program with these commands; its words are those behind its name, and a command stands among them.
+fn program_of<'a>(alloc: Global, lines: &[Line]) -> Result<Command<'a>, AllocError>
+    ensures { IfOk result (λ c. app_of c ≡ program lines.now) }
 {
-    Command::new(alloc, "lbfs")
+    let mut program = Command::new(alloc, "lbfs")
         .no_binary_name(true)
-        .subcommand_required(true)
+        .subcommand_required(true);
+    for line in lines {
+        let command = command_of(alloc, *line)?;
+        program = program.subcommand(command)?;
+    }
+    Ok(program)
 }
 
-/// The program with all its commands.
-fn with_commands<'a>(alloc: Global, named: Command<'a>) -> Result<Command<'a>, AllocError>
-    ensures { IfOk result (λ c. app_of c ≡ with_commands (app_of named.entry)) }
+/// What `clap` finds in these words, by these commands.
+pub(crate) fn matches_of<'a>(
+    alloc: Global,
+    lines: &[Line],
+    words: &'a [String],
+) -> Result<ArgMatches<'a>, Error>
+    ensures matches { IfOk result (HasMatchesOf (program lines.now) (map (λ w. string_bytes w) words.entry.now)) }
+    ensures kinds { is_simple_and_free (program lines.now) ≡ true
+        → FailsBy (fault_of (program lines.now) (map (λ w. string_bytes w) words.entry.now)) result }
 {
-    let all = below(Ok(named), replay_line(alloc));
-    let all = below(all, gen_line(alloc));
-    let all = below(all, Ok(Command::new(alloc, "cut")));
-    let all = below(all, Ok(Command::new(alloc, "show")));
-    let all = below(all, serve_line(alloc));
-    let all = below(all, mount_line(alloc));
-    below(all, check_line(alloc))
-}
-
-/// All commands of the program. The one error is running out of memory.
-#[tactic(auto, unfolding(crate::specs::Line::lbfs))]
-pub fn lbfs<'a>(alloc: Global) -> Result<Command<'a>, AllocError>
-    ensures { IfOk result (λ c. app_of c ≡ lbfs) }
-{
-    with_commands(alloc, named(alloc))
+    let program = program_of(alloc, lines)?;
+    program.try_get_matches_from(words)
 }

@@ -3,8 +3,7 @@
 
 use crate::asked::{KEEP_MOST, PORT_MOST, SEED_MOST};
 use crate::front::LINKS_MOST;
-use crate::front_line::front;
-use crate::line::lbfs;
+use crate::line::{front, lbfs, matches_of};
 use crate::words::first;
 use clap::error::ErrorKind;
 use clap::{ArgMatches, Error};
@@ -23,60 +22,64 @@ struct Use {
     does: &'static str,
 }
 
-/// A command of this name, with these words.
-fn using(name: &'static str, words: &'static str, does: &'static str) -> Use {
-    Use { name, words, does }
-}
-
 /// All commands.
-fn uses() -> [Use; 10] {
-    [
-        using(
-            "replay",
-            "replay [--summary]",
-            "runs the trace on standard input",
-        ),
-        using(
-            "replay",
-            "replay --seed S --blocks N [--summary]",
-            "runs a trace of N blocks that is made from a seed",
-        ),
-        using("gen", "gen S N", "writes such a trace"),
-        using("cut", "cut", "lists the chunks of standard input"),
-        using("show", "show", "lists the RPC records of standard input"),
-        using(
-            "serve",
-            "serve --port P --term MS --sessions N --store DIR [--unsynced]",
-            "serves a folder, until N sessions have ended",
-        ),
-        using(
-            "mount",
-            "mount --port P --drift MS [--cache NAME] [--keep BYTES]",
-            "runs the commands on standard input on a served folder",
-        ),
-        using(
-            "check",
-            "check --store DIR",
-            "looks over a folder that isn't served",
-        ),
-        using(
-            "share",
-            "share DIR [--port P] [--term MS] [--unsynced]",
-            "serves a folder until it is ended, at port 7000 if none is given",
-        ),
-        using(
-            "shell",
-            "shell --port P [--links N] [--cache NAME] [--quiet] [COMMAND ..]",
-            "runs a command, or what is typed, on a served folder",
-        ),
-    ]
-}
+static USES: [Use; 10] = [
+    Use {
+        name: "replay",
+        words: "replay [--summary]",
+        does: "runs the trace on standard input",
+    },
+    Use {
+        name: "replay",
+        words: "replay --seed S --blocks N [--summary]",
+        does: "runs a trace of N blocks that is made from a seed",
+    },
+    Use {
+        name: "gen",
+        words: "gen S N",
+        does: "writes such a trace",
+    },
+    Use {
+        name: "cut",
+        words: "cut",
+        does: "lists the chunks of standard input",
+    },
+    Use {
+        name: "show",
+        words: "show",
+        does: "lists the RPC records of standard input",
+    },
+    Use {
+        name: "serve",
+        words: "serve --port P --term MS --sessions N --store DIR [--unsynced]",
+        does: "serves a folder, until N sessions have ended",
+    },
+    Use {
+        name: "mount",
+        words: "mount --port P --drift MS [--cache NAME] [--keep BYTES]",
+        does: "runs the commands on standard input on a served folder",
+    },
+    Use {
+        name: "check",
+        words: "check --store DIR",
+        does: "looks over a folder that isn't served",
+    },
+    Use {
+        name: "share",
+        words: "share DIR [--port P] [--term MS] [--unsynced]",
+        does: "serves a folder until it is ended, at port 7000 if none is given",
+    },
+    Use {
+        name: "shell",
+        words: "shell --port P [--links N] [--cache NAME] [--quiet] [COMMAND ..]",
+        does: "runs a command, or what is typed, on a served folder",
+    },
+];
 
 /// The words that there are.
 fn put_usage(text: &mut String) -> Result<(), AllocError> {
     text.push_str("usage: lbfs COMMAND\n")?;
-    let uses = uses();
-    for it in uses.iter() {
+    for it in USES.iter() {
         write!(text, "  {}\n      {}\n", it.words, it.does)?;
     }
     text.push_str("docs/COMMANDS.md says what each reads, writes and ends with.\n")
@@ -88,8 +91,7 @@ fn put_usage_of(text: &mut String, words: &[String]) -> Result<(), AllocError> {
         return put_usage(text);
     };
     let mut is_named = false;
-    let uses = uses();
-    for it in uses.iter() {
+    for it in USES.iter() {
         if word.as_str() == it.name {
             write!(text, "usage: lbfs {}\n", it.words)?;
             is_named = true;
@@ -98,22 +100,25 @@ fn put_usage_of(text: &mut String, words: &[String]) -> Result<(), AllocError> {
     if is_named { Ok(()) } else { put_usage(text) }
 }
 
-/// An option whose value is a number, and between which numbers it lies.
-#[derive(Clone, Copy)]
-struct Range {
-    name: &'static str,
-    low: u64,
-    high: u64,
-}
-
-/// A range of these numbers.
-fn between(name: &'static str, low: u64, high: u64) -> Range {
-    Range { name, low, high }
-}
+/// Each option whose value is a number, and between which numbers it lies.
+static RANGES: [(&str, u64, u64); 8] = [
+    ("port", 1, PORT_MOST),
+    ("term", 1, TERM_MOST),
+    ("sessions", 1, SESSIONS_EVER_MOST),
+    ("drift", 0, DRIFT_MOST),
+    ("keep", 0, KEEP_MOST),
+    ("seed", 0, SEED_MOST),
+    ("blocks", 1, BLOCKS_MOST),
+    ("links", 1, LINKS_MOST),
+];
 
 /// Says of an option that its value isn't in its range; the answer is whether it isn't.
-fn put_if_past(text: &mut String, range: Range, matches: &ArgMatches) -> Result<bool, AllocError> {
-    let Range { name, low, high } = range;
+fn put_if_past(
+    text: &mut String,
+    range: (&str, u64, u64),
+    matches: &ArgMatches,
+) -> Result<bool, AllocError> {
+    let (name, low, high) = range;
     let Some(word) = first(name, matches) else {
         return Ok(false);
     };
@@ -129,17 +134,7 @@ fn put_if_past(text: &mut String, range: Range, matches: &ArgMatches) -> Result<
 
 /// Says which value isn't in its range, or what else is wrong with words of which `clap` takes each.
 fn put_past(text: &mut String, matches: &ArgMatches) -> Result<(), AllocError> {
-    let ranges = [
-        between("port", 1, PORT_MOST),
-        between("term", 1, TERM_MOST),
-        between("sessions", 1, SESSIONS_EVER_MOST),
-        between("drift", 0, DRIFT_MOST),
-        between("keep", 0, KEEP_MOST),
-        between("seed", 0, SEED_MOST),
-        between("blocks", 1, BLOCKS_MOST),
-        between("links", 1, LINKS_MOST),
-    ];
-    for range in ranges.iter() {
+    for range in RANGES.iter() {
         if put_if_past(text, *range, matches)? {
             return Ok(());
         }
@@ -171,12 +166,8 @@ fn is_front(words: &[String]) -> bool {
 
 /// What is wrong with the words, where they are more than a call for help.
 fn put_reason(alloc: Global, text: &mut String, words: &[String]) -> Result<(), AllocError> {
-    let line = if is_front(words) {
-        front(alloc)?
-    } else {
-        lbfs(alloc)?
-    };
-    match line.try_get_matches_from(words) {
+    let lines = if is_front(words) { front() } else { lbfs() };
+    match matches_of(alloc, lines, words) {
         Ok(matches) => match matches.subcommand() {
             Some((_name, matches)) => put_past(text, matches),
             None => Ok(()),

@@ -11,7 +11,7 @@ use crate::asked::{
     Asked, CheckOptions, Command, InputCommand, KEEP, KEEP_MOST, MountOptions, PORT_MOST,
     SEED_MOST, SeedCommand, ServeOptions, StorePath, View,
 };
-use crate::line::lbfs;
+use crate::line::{lbfs, matches_of};
 use clap::ArgMatches;
 use clap::error::ErrorKind;
 use command_text::fields::number_within;
@@ -230,8 +230,7 @@ pub fn asked_of(alloc: Global, words: &[String]) -> Result<Option<Asked>, AllocE
     ensures asked { IfOk result (λ asked. asked ≡ asked_of (map (λ w. string_bytes w) words.now)) }
     ensures few { IfOk result (λ asked. IsFew (command_in asked)) }
 {
-    let line = lbfs(alloc)?;
-    match line.try_get_matches_from(words) {
+    match matches_of(alloc, lbfs(), words) {
         Ok(matches) => entered_of(alloc, &matches),
         Err(error) if error.kind() == ErrorKind::OutOfMemory => Err(AllocError),
         Err(_) => Ok(None),
