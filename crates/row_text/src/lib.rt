@@ -2,5 +2,6 @@
 //! and bytes as texts have them.
 #![tactic(auto)]
 
+pub mod bytes;
 pub mod out;
 pub mod text;

@@ -58,6 +58,12 @@ impl Out {
         self.note(done)
     }
 
+    /// A text, and the end of its line.
+    pub fn line(&mut self, text: &str) {
+        self.text(text);
+        self.text("\n")
+    }
+
     /// A number as it is.
     pub fn bare(&mut self, number: u64) {
         let done = write!(self.text, "{number}");
@@ -68,6 +74,19 @@ impl Out {
     pub fn number(&mut self, number: u64) {
         self.text(" ");
         self.bare(number)
+    }
+
+    /// Numbers, each behind a blank.
+    pub fn numbers(&mut self, numbers: &[u64]) {
+        for number in numbers {
+            self.number(*number);
+        }
+    }
+
+    /// A name, and numbers behind it.
+    pub fn say(&mut self, name: &str, numbers: &[u64]) {
+        self.text(name);
+        self.numbers(numbers)
     }
 
     /// A truth value as it is.
@@ -81,16 +100,11 @@ impl Out {
         self.note(done)
     }
 
-    /// A byte in hexadecimal.
-    pub fn byte(&mut self, byte: u8) {
-        let done = write!(self.text, "{byte:02x}");
-        self.note(done)
-    }
-
     /// Bytes in hexadecimal.
     pub fn bytes(&mut self, bytes: &[u8]) {
         for byte in bytes.iter() {
-            self.byte(*byte);
+            let done = write!(self.text, "{byte:02x}");
+            self.note(done)
         }
     }
 
@@ -110,18 +124,9 @@ impl Out {
         }
     }
 
-    /// A name, and numbers behind theirs, as `Debug` has them of a struct.
-    pub fn fields(&mut self, name: &str, fields: &[(&str, u64)]) {
-        self.text(name);
-        let mut before = " { ";
-        for (field, number) in fields.iter() {
-            self.text(before);
-            self.text(field);
-            self.text(":");
-            self.number(*number);
-            before = ", ";
-        }
-        self.text(" }")
+    /// The text so far.
+    pub fn as_str(&self) -> &str {
+        self.text.as_str()
     }
 
     /// The text, where it is whole.

@@ -22,9 +22,44 @@ pub fn first(text: &str) -> (&str, &str) {
     split(text, ' ')
 }
 
+/// The first six words of a text, each up to the next blank, and what stands behind them.
+pub fn words(text: &str) -> [&str; 7] {
+    let (one, rest) = first(text);
+    let (two, rest) = first(rest);
+    let (three, rest) = first(rest);
+    let (four, rest) = first(rest);
+    let (five, rest) = first(rest);
+    let (six, rest) = first(rest);
+    [one, two, three, four, five, six, rest]
+}
+
+/// The letter that a word begins with; 0 where it has none. A `match` on letters is proved in a fraction
+/// of the time of one on words.
+pub fn letter(word: &str) -> u8 {
+    match word.as_bytes().first() {
+        Some(letter) => *letter,
+        None => 0,
+    }
+}
+
+/// What a word names in a table, or else this.
+pub fn named<T: Copy>(table: &[(&str, T)], word: &str, other: T) -> T {
+    for (name, value) in table {
+        if *name == word {
+            return *value;
+        }
+    }
+    other
+}
+
 /// The number that a word is; 0 where it is none.
 pub fn number(word: &str) -> u64 {
     word.parse::<u64>().unwrap_or(0)
+}
+
+/// The number of 32 bits that a word is; 0 where it is none.
+pub fn small(word: &str) -> u32 {
+    word.parse::<u32>().unwrap_or(0)
 }
 
 /// A copy of the items; none where memory runs out.
@@ -42,14 +77,14 @@ pub fn copied<T: Copy>(alloc: Global, items: &[T], out: &mut Out) -> Items<T> {
 fn put_run(out: &mut Out, byte: u8, count: u64) {
     if count < LEAST_RUN {
         for _at in 0..count {
-            out.byte(byte);
+            out.bytes(&[byte]);
         }
         return;
     }
     out.text("[");
     out.bare(count);
     out.text("*");
-    out.byte(byte);
+    out.bytes(&[byte]);
     out.text("]")
 }
 

@@ -1,47 +1,48 @@
 //! Arguments and results of procedures.
 
-use crate::bytes::{number_of, put_same, read_bytes};
-use crate::procedures::{lbfs_of, of_number};
 use crate::values::{Put, put_error};
-use hash_calls::message::{Back, Lb, LbIn};
-use nfs3_calls::message::Nfs;
+use hash_calls::message::{Back, BackProc, Lb, LbIn, LbProc};
+use nfs3_calls::message::{Nfs, NfsProc};
+use row_text::bytes::{put_same, read_bytes};
 use row_text::out::Out;
-use row_text::text::split;
+use row_text::text::{letter, named, small, split, words};
 use std::alloc::Global;
 use wire::message::Program;
 use xdr_codec::fault::ReadError;
 use xdr_codec::program::{ProgramBody, read_args, read_results, write};
 use xdr_codec::reader::Reader;
 
-/// What is to be read: arguments or results of a procedure, behind a header of `at` bytes.
+/// The version of LBFS that a program's word names: `lbfs2` is version 2, and `lbfs` version 1.
+fn lbfs_of(program: &str) -> u32 {
+    named(&[("lbfs2", 2), ("lbfs3", 3), ("lbfs4", 4)], program, 1)
+}
+
+/// The procedure of the program, `nfs`, `lbfs` (or `lbfs2` to `lbfs4`) or `back`, that has the number.
+pub fn of_number(program: &str, number: u32) -> Option<Program> {
+    match letter(program) {
+        b'n' => match NfsProc::of_number(number) {
+            Some(found) => Some(Program::Nfs(found)),
+            None => None,
+        },
+        b'b' => match BackProc::of_number(number) {
+            Some(found) => Some(Program::Back(found)),
+            None => None,
+        },
+        _ => match LbProc::of_number_in(lbfs_of(program), number) {
+            Some(found) => Some(Program::Lb(found)),
+            None => None,
+        },
+    }
+}
+
+/// What stands in a row: arguments or results, behind a header of `at` bytes.
 #[derive(Clone, Copy)]
 struct Plan {
     at: u32,
     is_call: bool,
-    program: Program,
-    lbfs: u32,
 }
 
-/// What was read, and its spelling.
-fn put_read<M: ProgramBody + Put>(
-    alloc: Global,
-    read: &Result<M, ReadError>,
-    bytes: &[u8],
-    out: &mut Out,
-) {
-    match read {
-        Ok(body) => {
-            body.put(out);
-            match write(alloc, body) {
-                Ok(written) => put_same(out, written.as_slice(), bytes),
-                Err(_) => out.lack(),
-            }
-        }
-        Err(error) => put_error(out, error),
-    }
-}
-
-/// What the bytes are, as arguments or as results of this procedure.
+/// What the bytes are, as arguments or as results of this procedure, and whether that is spelled so.
 fn put_body<M: ProgramBody + Put>(
     alloc: Global,
     plan: Plan,
@@ -55,49 +56,37 @@ fn put_body<M: ProgramBody + Put>(
     } else {
         read_results(alloc, procedure, &mut rest)
     };
-    put_read(alloc, &read, bytes, out);
-    drop(read)
-}
-
-/// What the bytes are.
-fn put_planned(alloc: Global, plan: Plan, bytes: &[u8], out: &mut Out) {
-    match plan.program {
-        Program::Nfs(found) => put_body::<Nfs>(alloc, plan, found, bytes, out),
-        Program::Lb(procedure) => {
-            let found = LbIn {
-                lbfs: plan.lbfs,
-                procedure,
-            };
-            put_body::<Lb>(alloc, plan, found, bytes, out)
+    match &read {
+        Ok(body) => {
+            body.put(out);
+            match write(alloc, body) {
+                Ok(written) => put_same(out, written.as_slice(), bytes),
+                Err(_) => out.lack(),
+            }
         }
-        Program::Back(found) => put_body::<Back>(alloc, plan, found, bytes, out),
+        Err(error) => put_error(out, error),
     }
-}
-
-/// What is to be read, as `AT args|results PROGRAM NUMBER` says.
-fn plan_of(front: &str) -> Option<Plan> {
-    let (at, rest) = split(front, ' ');
-    let (kind, rest) = split(rest, ' ');
-    let (program, number) = split(rest, ' ');
-    let lbfs = lbfs_of(program);
-    match of_number(program, number.trim_end()) {
-        Some(program) => Some(Plan {
-            at: number_of(at),
-            is_call: kind == "args",
-            program,
-            lbfs,
-        }),
-        None => None,
-    }
+    drop(read)
 }
 
 /// `AT args|results PROGRAM NUMBER : BYTES`: what stands there behind a header of `AT` bytes, and
 /// whether it is spelled so.
 pub fn put(alloc: Global, row: &str, out: &mut Out) {
     let (front, bytes) = split(row, ':');
+    let [at, kind, program, number, ..] = words(front);
     let bytes = read_bytes(alloc, bytes, out);
-    match plan_of(front) {
-        Some(plan) => put_planned(alloc, plan, bytes.as_slice(), out),
+    let bytes = bytes.as_slice();
+    let plan = Plan {
+        at: small(at),
+        is_call: letter(kind) == b'a',
+    };
+    match of_number(program, small(number)) {
+        Some(Program::Nfs(procedure)) => put_body::<Nfs>(alloc, plan, procedure, bytes, out),
+        Some(Program::Lb(procedure)) => {
+            let lbfs = lbfs_of(program);
+            put_body::<Lb>(alloc, plan, LbIn { lbfs, procedure }, bytes, out)
+        }
+        Some(Program::Back(procedure)) => put_body::<Back>(alloc, plan, procedure, bytes, out),
         None => out.text(" no procedure"),
     }
 }

@@ -1,31 +1,70 @@
-//! The rows of each file, and what comes of them.
+//! The rows of each file, and what comes of them. Those of histories are of one history; each row of
+//! the others stands for itself.
 
-use crate::{bodies, handles, headers, items, procedures, records, shown, streams};
+use crate::histories::Rows;
+use crate::{bodies, clocks, contents, cuts, headers, items, lines, records, streams};
 use row_text::out::Out;
 use row_text::text::is_remark;
 use std::alloc::Global;
 
-/// What comes of a row of a file.
-fn put_row(alloc: Global, file: &str, row: &str, out: &mut Out) {
-    match file {
-        "items" => items::put(alloc, row, out),
-        "handles" => handles::put(alloc, row, out),
-        "streams" => streams::put(alloc, row, out),
-        "headers" => headers::put(alloc, row, out),
-        "procedures" => procedures::put(row, out),
-        "records" => records::put(alloc, row, out),
-        "shown" => shown::put(alloc, row, out),
-        _ => bodies::put(alloc, row, out),
+/// What the rows of a file are of.
+#[derive(Clone, Copy)]
+pub enum Part {
+    /// Items of XDR.
+    Items,
+    /// Handles.
+    Handles,
+    /// Streams of records.
+    Streams,
+    /// Headers of RPC.
+    Headers,
+    /// Arguments and results.
+    Bodies,
+    /// Records as messages.
+    Records,
+    /// Lines of traces.
+    Lines,
+    /// Contents of files.
+    Contents,
+    /// Texts of refusals.
+    Refusals,
+    /// Readings of clocks.
+    Clocks,
+    /// Fingerprints.
+    Prints,
+    /// Cuts into chunks.
+    Cuts,
+    /// Histories.
+    Histories,
+}
+
+/// What comes of a row.
+fn put_row(alloc: Global, part: Part, rows: &mut Rows, row: &str, out: &mut Out) {
+    match part {
+        Part::Items => items::put(alloc, row, out),
+        Part::Handles => items::put_handle(alloc, row, out),
+        Part::Streams => streams::put(alloc, row, out),
+        Part::Headers => headers::put(alloc, row, out),
+        Part::Bodies => bodies::put(alloc, row, out),
+        Part::Records => records::put(alloc, row, out),
+        Part::Lines => lines::put(alloc, row, out),
+        Part::Contents => contents::put(alloc, row, out),
+        Part::Refusals => clocks::put_refusal(alloc, row, out),
+        Part::Clocks => clocks::put(alloc, row, out),
+        Part::Prints => contents::put_prints(alloc, row, out),
+        Part::Cuts => cuts::put(alloc, row, out),
+        Part::Histories => rows.put(alloc, row, out),
     }
 }
 
-/// Each row of a file's text, and what comes of it.
-pub fn put_rows(alloc: Global, file: &str, text: &str, out: &mut Out) {
+/// Each row of a text, and what comes of it.
+pub fn put_rows(alloc: Global, part: Part, text: &str, out: &mut Out) {
+    let mut rows = Rows::new(alloc);
     for row in text.lines() {
         if !is_remark(row) {
             out.text(row);
             out.text(" =>");
-            put_row(alloc, file, row, out);
+            put_row(alloc, part, &mut rows, row, out);
             out.text("\n");
         }
     }

@@ -1,10 +1,9 @@
-//! Items of XDR, read one after the other.
+//! Items of XDR, read one after the other; and handles.
 
-use crate::bytes::{number_of, put_same, read_bytes};
 use crate::values::{Put, put_error};
-use lb_base::items::Items;
+use row_text::bytes::{put_bytes, put_same, read_bytes};
 use row_text::out::Out;
-use row_text::text::split;
+use row_text::text::{first, letter, number, small, split};
 use std::alloc::Global;
 use xdr_codec::answer::Answer;
 use xdr_codec::attr::{Attr, Kind};
@@ -24,14 +23,6 @@ struct Copying<'a> {
     writer: Writer,
 }
 
-/// How many numbers there are, and each.
-fn put_items<T: Put>(items: &[T], out: &mut Out) {
-    out.number(items.len() as u64);
-    for item in items {
-        item.put(out);
-    }
-}
-
 impl Copying<'_> {
     /// One item, read and written again.
     fn item<T: Item + Put>(&mut self, out: &mut Out) {
@@ -44,52 +35,49 @@ impl Copying<'_> {
         }
     }
 
-    /// So many bytes.
-    fn fixed(&mut self, len: u32, out: &mut Out) {
-        match self.reader.fixed(self.alloc, len as usize) {
+    /// So many bytes, or at most so many behind their number.
+    fn bytes(&mut self, is_fixed: bool, size: u32, out: &mut Out) {
+        let read = if is_fixed {
+            self.reader.fixed(self.alloc, size as usize)
+        } else {
+            self.reader.opaque(self.alloc, size)
+        };
+        match &read {
             Ok(bytes) => {
-                bytes.put(out);
-                out.note(self.writer.fixed(bytes.as_slice()))
+                put_bytes(out, bytes.as_slice());
+                out.note(if is_fixed {
+                    self.writer.fixed(bytes.as_slice())
+                } else {
+                    self.writer.opaque(bytes.as_slice())
+                })
             }
-            Err(error) => put_error(out, &error),
+            Err(error) => put_error(out, error),
         }
     }
 
-    /// At most so many bytes behind their number.
-    fn opaque(&mut self, max: u32, out: &mut Out) {
-        match self.reader.opaque(self.alloc, max) {
-            Ok(bytes) => {
-                bytes.put(out);
-                out.note(self.writer.opaque(bytes.as_slice()))
-            }
-            Err(error) => put_error(out, &error),
-        }
-    }
-
-    /// At most so many numbers behind their number.
-    fn counted<T: Item + Put>(&mut self, max: u32, out: &mut Out) {
-        match read_counted::<T>(self.alloc, max, &mut self.reader) {
+    /// At most so many numbers behind their number, or with no `most` each behind a truth value.
+    fn list<T: Item + Put>(&mut self, most: Option<u32>, out: &mut Out) {
+        let read = match most {
+            Some(most) => read_counted::<T>(self.alloc, most, &mut self.reader),
+            None => read_chain::<T>(self.alloc, &mut self.reader),
+        };
+        match &read {
             Ok(items) => {
-                put_items(items.as_slice(), out);
-                out.note(write_counted(&mut self.writer, items.as_slice()))
+                out.number(items.len() as u64);
+                for item in items.as_slice() {
+                    item.put(out);
+                }
+                out.note(match most {
+                    Some(_) => write_counted(&mut self.writer, items.as_slice()),
+                    None => write_chain(&mut self.writer, items.as_slice()),
+                })
             }
-            Err(error) => put_error(out, &error),
-        }
-    }
-
-    /// Numbers of 64 bits, each behind a truth value.
-    fn chain(&mut self, out: &mut Out) {
-        match read_chain::<u64>(self.alloc, &mut self.reader) {
-            Ok(items) => {
-                put_items(items.as_slice(), out);
-                out.note(write_chain(&mut self.writer, items.as_slice()))
-            }
-            Err(error) => put_error(out, &error),
+            Err(error) => put_error(out, error),
         }
     }
 
     /// Whether an item follows.
-    fn opt(&mut self, out: &mut Out) {
+    fn there(&mut self, out: &mut Out) {
         match self.reader.opt() {
             Ok(is_there) => {
                 is_there.put(out);
@@ -103,76 +91,37 @@ impl Copying<'_> {
     fn end(&mut self, out: &mut Out) {
         match self.reader.end() {
             Ok(()) => {
-                out.text(" end");
-                out.number(self.reader.at() as u64);
-                out.text(" left");
-                out.number(self.reader.left() as u64)
+                out.say(" end", &[self.reader.at() as u64]);
+                out.say(" left", &[self.reader.left() as u64])
             }
             Err(error) => put_error(out, &error),
         }
     }
 
-    /// An item with a length or a maximum.
-    fn sized(&mut self, word: &str, size: u32, out: &mut Out) {
-        match word {
-            "fixed" => self.fixed(size, out),
-            "opaque" => self.opaque(size, out),
-            "longs" => self.counted::<u64>(size, out),
-            _ => self.counted::<u32>(size, out),
-        }
-    }
-
-    /// An item of a type without parts.
-    fn simple(&mut self, word: &str, out: &mut Out) {
-        match word {
-            "u32" => self.item::<u32>(out),
-            "u64" => self.item::<u64>(out),
-            "bool" => self.item::<bool>(out),
-            "kind" => self.item::<Kind>(out),
-            "handle" => self.item::<Handle>(out),
-            "digest" => self.item::<Digest>(out),
-            _ => out.text(" no item"),
-        }
-    }
-
-    /// An item of a type.
-    fn typed(&mut self, word: &str, out: &mut Out) {
-        match word {
-            "maybe-u32" => self.item::<Option<u32>>(out),
-            "maybe-kind" => self.item::<Option<Kind>>(out),
-            "attributes" => self.item::<Answer<Attr, ()>>(out),
-            "status" => self.item::<Answer<(), Option<u32>>>(out),
-            "opt" => self.opt(out),
-            "chain" => self.chain(out),
-            "end" => self.end(out),
-            _ => self.simple(word, out),
-        }
-    }
-
-    /// An item, as a word says.
+    /// An item, as the first letter of a word says, with its length or its maximum behind a dot.
     fn word(&mut self, word: &str, out: &mut Out) {
         let (word, size) = split(word, '.');
-        if size.is_empty() {
-            self.typed(word, out)
-        } else {
-            self.sized(word, number_of(size), out)
+        let size = small(size);
+        match letter(word) {
+            b'u' => self.item::<u32>(out),
+            b'w' => self.item::<u64>(out),
+            b'b' => self.item::<bool>(out),
+            b'k' => self.item::<Kind>(out),
+            b'h' => self.item::<Handle>(out),
+            b'd' => self.item::<Digest>(out),
+            b'm' => self.item::<Option<u32>>(out),
+            b'p' => self.item::<Option<Kind>>(out),
+            b'a' => self.item::<Answer<Attr, ()>>(out),
+            b's' => self.item::<Answer<(), Option<u32>>>(out),
+            b'f' => self.bytes(true, size, out),
+            b'o' => self.bytes(false, size, out),
+            b'l' => self.list::<u64>(Some(size), out),
+            b'c' => self.list::<u32>(Some(size), out),
+            b'j' => self.list::<u64>(None, out),
+            b't' => self.there(out),
+            _ => self.end(out),
         }
     }
-}
-
-/// What is read of the bytes behind so many others, and whether it is written so.
-fn put_plan(alloc: Global, at: u32, plan: &str, bytes: &[u8], out: &mut Out) {
-    let mut copying = Copying {
-        alloc,
-        reader: Reader::behind(at as usize, bytes),
-        writer: Writer::new(alloc),
-    };
-    for word in plan.split_whitespace() {
-        copying.word(word, out);
-    }
-    let Copying { writer, .. } = copying;
-    let written = writer.done();
-    put_same(out, written.as_slice(), bytes)
 }
 
 /// `AT ITEM .. : BYTES`: what is read of the bytes behind `AT` others, item by item, and whether what
@@ -180,6 +129,30 @@ fn put_plan(alloc: Global, at: u32, plan: &str, bytes: &[u8], out: &mut Out) {
 pub fn put(alloc: Global, row: &str, out: &mut Out) {
     let (front, bytes) = split(row, ':');
     let bytes = read_bytes(alloc, bytes, out);
-    let (at, plan) = split(front, ' ');
-    put_plan(alloc, number_of(at), plan, bytes.as_slice(), out)
+    let (at, plan) = first(front);
+    let mut copying = Copying {
+        alloc,
+        reader: Reader::behind(small(at) as usize, bytes.as_slice()),
+        writer: Writer::new(alloc),
+    };
+    for word in plan.split_whitespace() {
+        copying.word(word, out);
+    }
+    let Copying { writer, .. } = copying;
+    put_same(out, writer.done().as_slice(), bytes.as_slice())
+}
+
+/// `of NUMBER`: the bytes of the file's handle. `BYTES`: the handle that they are, or `none`.
+pub fn put_handle(alloc: Global, row: &str, out: &mut Out) {
+    let (word, file) = first(row);
+    if letter(word) == b'o' {
+        return match Handle::of_file(alloc, number(file)) {
+            Ok(handle) => put_bytes(out, handle.as_slice()),
+            Err(_) => out.lack(),
+        };
+    }
+    match Handle::new(read_bytes(alloc, row, out)) {
+        Some(handle) => handle.put(out),
+        None => out.text(" none"),
+    }
 }

@@ -1,116 +1,69 @@
 //! Whole records as messages.
 
-use crate::bytes::{number_of, put_same, read_bytes};
-use crate::procedures::of_number;
+use crate::bodies::of_number;
 use crate::values::{Put, put_name};
 use lb_base::items::Items;
+use row_text::bytes::{put_same, read_bytes};
 use row_text::out::Out;
-use row_text::text::split;
+use row_text::text::{first, letter, small, split};
 use std::alloc::Global;
 use wire::fault::WireError;
 use wire::message::{Body, LBFS_SERVED, Message, Pending, RpcRefusal, Side, Waiting};
 use wire::parse::parse;
 use wire::spell::spell;
 
-impl Put for Body {
-    fn put(&self, out: &mut Out) {
-        let program = self.program();
-        out.number(u64::from(program.number()));
-        out.number(u64::from(program.procedure()));
-        match self {
-            Body::Nfs(message) => message.put(out),
-            Body::Lb(message) => message.put(out),
-            Body::Back(message) => message.put(out),
+/// The calls that wait, as `XID=PROGRAM.NUMBER ..` says.
+fn calls_of(alloc: Global, words: &str, out: &mut Out) -> Items<Pending> {
+    let mut calls = Vec::new(alloc);
+    for word in words.split_whitespace() {
+        let (xid, rest) = split(word, '=');
+        let (program, number) = split(rest, '.');
+        if let Some(program) = of_number(program, small(number)) {
+            let xid = small(xid);
+            out.note(calls.extend_from_slice(&[Pending { xid, program }]));
         }
     }
+    Items::from_vec(calls)
 }
 
-/// A call that waits, as `XID=PROGRAM.NUMBER` says.
-fn pending(word: &str) -> Option<Pending> {
-    let (xid, rest) = split(word, '=');
-    let (program, number) = split(rest, '.');
-    match of_number(program, number) {
-        Some(program) => Some(Pending {
-            xid: number_of(xid),
-            program,
-        }),
-        None => None,
+/// What a call or an answer has, behind its program and its procedure.
+fn put_body(out: &mut Out, word: &str, xid: u32, body: &Body) {
+    let program = body.program();
+    let (number, procedure) = (program.number(), program.procedure());
+    out.say(word, &[xid as u64, number as u64, procedure as u64]);
+    match body {
+        Body::Nfs(message) => message.put(out),
+        Body::Lb(message) => message.put(out),
+        Body::Back(message) => message.put(out),
     }
 }
 
-/// The calls that wait, as `SIDE XID=PROGRAM.NUMBER ..` says.
-fn calls_of(alloc: Global, front: &str, out: &mut Out) -> Items<Pending> {
-    let mut calls = Items::new(alloc);
-    for word in front.split_whitespace() {
-        if let Some(call) = pending(word) {
-            if calls.push(call).is_err() {
-                out.lack();
-            }
-        }
-    }
-    calls
-}
-
-/// The side that reads.
-fn side_of(front: &str) -> Side {
-    if front.starts_with("server") {
-        return Side::Server;
-    }
-    if front.starts_with("client") {
-        return Side::Client;
-    }
-    Side::Either
-}
-
-/// The versions that a refusal tells, ` NAME { low: 2, high: 3 }`.
-fn put_versions(out: &mut Out, name: &str, low: u32, high: u32) {
-    out.text(name);
-    out.text(" { low: ");
-    out.bare(u64::from(low));
-    out.text(", high: ");
-    out.bare(u64::from(high));
-    out.text(" }")
-}
-
-/// Why a call is refused, by its name and what it tells.
-fn put_refusal(out: &mut Out, why: &RpcRefusal) {
+/// Why a call is refused: its name and the two numbers that it tells, 0 where it tells none.
+fn told_by(why: RpcRefusal) -> (&'static str, u32, u32) {
     match why {
-        RpcRefusal::ProgUnavail => out.text(" ProgUnavail"),
-        RpcRefusal::ProgMismatch { low, high } => put_versions(out, " ProgMismatch", *low, *high),
-        RpcRefusal::ProcUnavail => out.text(" ProcUnavail"),
-        RpcRefusal::GarbageArgs => out.text(" GarbageArgs"),
-        RpcRefusal::SystemErr => out.text(" SystemErr"),
-        RpcRefusal::RpcMismatch { low, high } => put_versions(out, " RpcMismatch", *low, *high),
-        RpcRefusal::AuthError(stat) => {
-            out.text(" AuthError(");
-            out.bare(u64::from(*stat));
-            out.text(")")
-        }
+        RpcRefusal::ProgUnavail => (" ProgUnavail", 0, 0),
+        RpcRefusal::ProgMismatch { low, high } => (" ProgMismatch", low, high),
+        RpcRefusal::ProcUnavail => (" ProcUnavail", 0, 0),
+        RpcRefusal::GarbageArgs => (" GarbageArgs", 0, 0),
+        RpcRefusal::SystemErr => (" SystemErr", 0, 0),
+        RpcRefusal::RpcMismatch { low, high } => (" RpcMismatch", low, high),
+        RpcRefusal::AuthError(stat) => (" AuthError", stat, 0),
     }
+}
+
+/// Why a call is refused.
+fn put_refusal(out: &mut Out, word: &str, xid: u32, why: RpcRefusal) {
+    let (name, one, two) = told_by(why);
+    out.say(word, &[xid as u64]);
+    out.say(name, &[one as u64, two as u64])
 }
 
 fn put_message(out: &mut Out, message: &Message) {
     match message {
-        Message::Call(xid, body) => {
-            out.text(" Call");
-            out.number(u64::from(*xid));
-            body.put(out)
-        }
-        Message::Answer(xid, body) => {
-            out.text(" Answer");
-            out.number(u64::from(*xid));
-            body.put(out)
-        }
-        Message::Refuse(xid, why) => {
-            out.text(" Refuse");
-            out.number(u64::from(*xid));
-            put_refusal(out, why)
-        }
-        Message::Unfit(xid, why) => {
-            out.text(" Unfit");
-            out.number(u64::from(*xid));
-            put_refusal(out, why)
-        }
+        Message::Call(xid, body) => put_body(out, " Call", *xid, body),
+        Message::Answer(xid, body) => put_body(out, " Answer", *xid, body),
+        Message::Refuse(xid, why) => put_refusal(out, " Refuse", *xid, *why),
+        Message::Unfit(xid, why) => put_refusal(out, " Unfit", *xid, *why),
     }
 }
 
@@ -133,12 +86,15 @@ fn put_read(alloc: Global, read: &Result<Message, WireError>, record: &[u8], out
 /// these calls wait, and what is sent of it.
 pub fn put(alloc: Global, row: &str, out: &mut Out) {
     let (front, bytes) = split(row, ':');
-    let side = side_of(front);
-    let calls = calls_of(alloc, front, out);
+    let (side, calls) = first(front);
     let expected = Waiting {
-        side,
+        side: match letter(side) {
+            b's' => Side::Server,
+            b'c' => Side::Client,
+            _ => Side::Either,
+        },
         lbfs: LBFS_SERVED,
-        calls,
+        calls: calls_of(alloc, calls, out),
     };
     let record = read_bytes(alloc, bytes, out);
     let read = parse(alloc, record.as_slice(), &expected);

@@ -1,10 +1,10 @@
 //! Streams of records, and records that are marked.
 
-use crate::bytes::{put_bytes, read_bytes};
 use crate::values::put_name;
 use lb_base::items::Bytes;
+use row_text::bytes::{put_bytes, read_bytes};
 use row_text::out::Out;
-use row_text::text::split;
+use row_text::text::{first, letter};
 use rpc_record::marking::{mark, mark_in_place};
 use rpc_record::records::{Fed, Records};
 use rpc_record::refusal::MarkError;
@@ -23,42 +23,20 @@ fn put_fed(fed: &Result<Fed, AllocError>, out: &mut Out) {
     }
 }
 
-/// How many bytes are kept.
-fn put_rest(records: &Records, out: &mut Out) {
-    out.text(" rest");
-    out.number(records.rest_len() as u64)
-}
-
-/// The pieces of a stream, one behind the other, each by reference.
-fn put_pieces(alloc: Global, pieces: &str, out: &mut Out) {
+/// The pieces of a stream, one behind the other, by reference or by value, and how many bytes are kept.
+fn put_pieces(alloc: Global, is_taken: bool, pieces: &str, out: &mut Out) {
     let mut records = Records::new(alloc);
     for piece in pieces.split('|') {
         let piece = read_bytes(alloc, piece, out);
-        put_fed(&records.feed(alloc, piece.as_slice()), out);
+        let fed = if is_taken {
+            records.take(alloc, piece)
+        } else {
+            records.feed(alloc, piece.as_slice())
+        };
+        put_fed(&fed, out);
         out.text(" |");
     }
-    put_rest(&records, out)
-}
-
-/// The same by value.
-fn put_taken(alloc: Global, pieces: &str, out: &mut Out) {
-    let mut records = Records::new(alloc);
-    for piece in pieces.split('|') {
-        let piece = read_bytes(alloc, piece, out);
-        put_fed(&records.take(alloc, piece), out);
-        out.text(" |");
-    }
-    put_rest(&records, out)
-}
-
-/// A stream, byte by byte.
-fn put_single(alloc: Global, bytes: &str, out: &mut Out) {
-    let bytes = read_bytes(alloc, bytes, out);
-    let mut records = Records::new(alloc);
-    for byte in bytes.as_slice() {
-        put_fed(&records.feed(alloc, &[*byte]), out);
-    }
-    put_rest(&records, out)
+    out.say(" rest", &[records.rest_len() as u64])
 }
 
 /// A record behind four bytes, marked where it stands.
@@ -81,40 +59,15 @@ fn put_record(marked: &Result<Bytes, MarkError>, out: &mut Out) {
     }
 }
 
-/// The size that is too big for a record.
-fn size_in(error: &MarkError) -> Option<usize> {
-    match error {
-        MarkError::TooBig { len } => Some(*len),
-        MarkError::Memory => None,
-    }
-}
-
-/// Whether both are the same record, or none for the same size.
-fn is_same(one: &Result<Bytes, MarkError>, other: &Result<Bytes, MarkError>) -> bool {
-    match (one, other) {
-        (Ok(one), Ok(other)) => one == other,
-        (Err(one), Err(other)) => size_in(one) == size_in(other),
-        _ => false,
-    }
-}
-
-/// A record in its one fragment, and whether it is marked so where it stands.
-fn put_marked(alloc: Global, bytes: &str, out: &mut Out) {
-    let bytes = read_bytes(alloc, bytes, out);
-    let marked = mark(alloc, bytes.as_slice());
-    put_record(&marked, out);
-    let is_same = is_same(&marked, &marked_in_place(alloc, bytes.as_slice()));
-    out.text(if is_same { "; same" } else { "; other" })
-}
-
 /// `feed BYTES | BYTES ..`: the records that each piece gives, and the refusal. `take ..`: the same of
-/// pieces by value. `single BYTES`: the same byte by byte. `mark BYTES`: the record in its fragment.
+/// pieces by value. `mark BYTES`: the record in its one fragment, and where it is marked in its place.
 pub fn put(alloc: Global, row: &str, out: &mut Out) {
-    let (word, bytes) = split(row, ' ');
-    match word {
-        "feed" => put_pieces(alloc, bytes, out),
-        "take" => put_taken(alloc, bytes, out),
-        "single" => put_single(alloc, bytes, out),
-        _ => put_marked(alloc, bytes, out),
+    let (word, bytes) = first(row);
+    if letter(word) != b'm' {
+        return put_pieces(alloc, letter(word) == b't', bytes, out);
     }
+    let bytes = read_bytes(alloc, bytes, out);
+    put_record(&mark(alloc, bytes.as_slice()), out);
+    out.text(";");
+    put_record(&marked_in_place(alloc, bytes.as_slice()), out)
 }

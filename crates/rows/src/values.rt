@@ -1,12 +1,10 @@
 //! Values as they are printed: their numbers, truth values and bytes in the order of their spelling.
 
-use crate::bytes::put_bytes;
-use digests::Dig;
-use lb_base::items::Items;
+use row_text::bytes::put_bytes;
 use row_text::out::Out;
 use std::fmt::Debug;
 use xdr_codec::answer::Answer;
-use xdr_codec::attr::{Attr, Kind, Time};
+use xdr_codec::attr::{Attr, Kind};
 use xdr_codec::fault::ReadError;
 use xdr_codec::handle::Handle;
 use xdr_codec::status;
@@ -31,20 +29,13 @@ pub fn put_error(out: &mut Out, error: &ReadError) {
     }
 }
 
-/// Numbers.
-pub fn put_numbers(out: &mut Out, numbers: &[u64]) {
-    for number in numbers {
-        out.number(*number);
-    }
-}
-
 impl Put for () {
     fn put(&self, _out: &mut Out) {}
 }
 
 impl Put for u32 {
     fn put(&self, out: &mut Out) {
-        out.number(u64::from(*self))
+        out.number(*self as u64)
     }
 }
 
@@ -60,19 +51,7 @@ impl Put for bool {
     }
 }
 
-impl Put for Items<u8> {
-    fn put(&self, out: &mut Out) {
-        put_bytes(out, self.as_slice())
-    }
-}
-
 impl Put for [u8; 20] {
-    fn put(&self, out: &mut Out) {
-        put_bytes(out, self.as_slice())
-    }
-}
-
-impl Put for Dig {
     fn put(&self, out: &mut Out) {
         put_bytes(out, self.as_slice())
     }
@@ -111,7 +90,7 @@ impl<T: Put, F: Put> Put for Answer<T, F> {
                 body.put(out)
             }
             Answer::Failed(status, body) => {
-                status::number(*status).put(out);
+                out.number(status::number(*status) as u64);
                 body.put(out)
             }
         }
@@ -127,32 +106,34 @@ impl Put for Kind {
     }
 }
 
-impl Put for Time {
+impl Put for Attr {
     fn put(&self, out: &mut Out) {
-        put_numbers(out, &[u64::from(self.seconds), u64::from(self.nanoseconds)])
+        let (atime, mtime, ctime) = (self.atime, self.mtime, self.ctime);
+        self.kind.put(out);
+        out.numbers(&[
+            self.mode as u64,
+            self.nlink as u64,
+            self.uid as u64,
+            self.gid as u64,
+            self.size,
+            self.used,
+            self.rdev_major as u64,
+            self.rdev_minor as u64,
+            self.fsid,
+            self.fileid,
+            atime.seconds as u64,
+            atime.nanoseconds as u64,
+            mtime.seconds as u64,
+            mtime.nanoseconds as u64,
+            ctime.seconds as u64,
+            ctime.nanoseconds as u64,
+        ])
     }
 }
 
-impl Put for Attr {
-    fn put(&self, out: &mut Out) {
-        self.kind.put(out);
-        put_numbers(
-            out,
-            &[
-                u64::from(self.mode),
-                u64::from(self.nlink),
-                u64::from(self.uid),
-                u64::from(self.gid),
-                self.size,
-                self.used,
-                u64::from(self.rdev_major),
-                u64::from(self.rdev_minor),
-                self.fsid,
-                self.fileid,
-            ],
-        );
-        self.atime.put(out);
-        self.mtime.put(out);
-        self.ctime.put(out)
-    }
+/// Numbers, a handle, and numbers behind it.
+pub fn put_on(out: &mut Out, before: &[u64], handle: &Handle, behind: &[u64]) {
+    out.numbers(before);
+    handle.put(out);
+    out.numbers(behind)
 }

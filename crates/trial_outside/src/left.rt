@@ -6,61 +6,39 @@ use crate::trial::Trial;
 use crate::tried_store::TriedStore;
 use links::mem_files::MemFiles;
 use row_text::out::Out;
-use std::sync::Wait;
 
-/// Numbers, one behind the other.
-fn put_counts(counts: &[u64], out: &mut Out) {
-    for count in counts.iter() {
-        out.number(*count);
-    }
-}
-
-/// How many answers had appeared at each call of a mount's source.
-pub fn put_seen(trial: &Trial<'_>, source: &Typist<'_>, out: &mut Out) {
-    if trial.words.starts_with("mount") {
-        out.text(" lines");
-        put_counts(source.seen(), out);
-    }
-}
-
-/// How many faults a server's network had, how many records its store has, and how often that was to be made
-/// sure, where it is asked for.
-pub fn put_served<R: Wait + Copy>(
+/// How many answers had appeared at each call of a mount's source; how many faults a server's network had, how many
+/// records its store has, and how often that was to be made sure, where it is asked for; and what was written.
+pub fn put_written<R>(
     trial: &Trial<'_>,
+    source: &Typist<'_>,
     network: &PortNet<R>,
     store: &TriedStore,
+    sink: &Screen<'_>,
     out: &mut Out,
 ) {
-    if !trial.words.starts_with("serve") {
-        return;
+    if trial.words.starts_with("mount") {
+        out.say(" lines", source.seen.as_slice());
     }
-    out.text(" faults");
-    out.number(network.faults());
-    out.text(" records");
-    out.number(store.len() as u64);
-    if trial.setting("counted").is_some() {
-        out.text(" settles");
-        out.number(store.settles());
+    if trial.words.starts_with("serve") {
+        out.say(" faults", &[network.faults]);
+        store.put(trial.setting("counted").is_some(), out);
     }
+    out.line("");
+    out.letters(sink.text.as_slice())
 }
 
-/// What was written.
-pub fn put_written(sink: &Screen<'_>, out: &mut Out) {
-    out.text("\n");
-    out.letters(sink.text())
-}
-
-/// A link that has no twin, if there is one.
-pub fn put_unpaired<R: Copy>(unpaired: &Option<PortLink<R>>, out: &mut Out) {
+/// A link that has no twin, if there is one, and the files of a mount's host.
+pub fn put_left<R>(
+    trial: &Trial<'_>,
+    unpaired: &Option<PortLink<R>>,
+    files: &MemFiles,
+    out: &mut Out,
+) {
     if let Some(link) = unpaired {
-        out.text("link without a twin, faults");
-        out.number(link.faults());
-        out.text("\n");
+        out.say("link without a twin, faults", &[link.faults]);
+        out.line("");
     }
-}
-
-/// The files of a mount's host.
-pub fn put_files(trial: &Trial<'_>, files: &MemFiles, out: &mut Out) {
     if !trial.words.starts_with("mount") {
         return;
     }

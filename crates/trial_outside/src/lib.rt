@@ -3,9 +3,10 @@
 #![tactic(auto)]
 
 pub mod left;
-mod line;
+pub mod line;
 pub mod outside;
 pub mod port;
+pub mod rowless;
 pub mod screen;
 pub mod trial;
 pub mod tried_store;

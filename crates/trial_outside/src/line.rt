@@ -1,10 +1,11 @@
 //! Lines in memory between two ends: what is on its way on each, and when the dialler's side of one ends.
 
 use crate::trial::{Trial, bytes_of, split};
-use crate::wanted::{Wanted, is_wanted, wanted_of};
+use crate::wanted::Wanted;
+use lb_base::sink::GiveError;
 use row_text::out::Out;
 use row_text::text::number;
-use std::alloc::Global;
+use std::alloc::{AllocError, Global};
 
 /// No record can begin with these.
 const NOISE: [u8; 4] = [255, 255, 255, 255];
@@ -52,23 +53,13 @@ impl Ending {
     }
 }
 
-/// What came of giving.
-#[derive(Clone, Copy)]
-pub enum Given {
-    Taken,
-    Failed,
-    Memory,
-    /// It is to be waited until the line is shut, and fails then.
-    Waits,
-}
-
 /// What an end waits for.
 #[derive(Clone, Copy)]
 pub enum Until {
     /// Somebody has something to say to a dialler that takes nothing.
     Speaker,
-    /// The line is shut.
-    Shut,
+    /// Its dialler takes something, or the line is shut.
+    Heard,
     /// Something came to a side, or can't come any more.
     News { side: Side, is_silent: bool },
     /// Its listener gave so many records, or the line is shut.
@@ -77,25 +68,11 @@ pub enum Until {
     Taken,
 }
 
-/// What comes to the listener once something was given to a line, its own or another.
+/// So many bytes come to the listener once something was given to a line, its own or another.
+#[derive(Clone, Copy)]
 struct Later {
     once: Wanted,
-    bytes: Vec<u8>,
-}
-
-/// Written by hand, so that it is proved once.
-impl Drop for Later {
-    fn drop(self) {
-        let Later { once: _, bytes } = self;
-        drop(bytes)
-    }
-}
-
-impl Later {
-    fn into_bytes(self) -> Vec<u8> {
-        let Later { once: _, bytes } = self;
-        bytes
-    }
+    bytes: usize,
 }
 
 /// What is on its way on a line.
@@ -109,18 +86,18 @@ pub struct Line {
     piece: usize,
     /// Whether somebody has something to say to a dialler that takes nothing.
     speaks: bool,
-    is_shut: bool,
-    /// To the listener.
+    pub(crate) is_shut: bool,
+    /// To the listener: what came, and behind it what comes later, in order.
     up: Vec<u8>,
-    /// To the dialler.
-    down: Vec<u8>,
-    /// What comes to the listener later, in order.
+    came: usize,
     later: Vec<Later>,
+    /// To the dialler.
+    pub(crate) down: Vec<u8>,
     /// What its dialler gave.
-    said: Vec<u8>,
-    /// How many records its listener gave, and in how many calls.
+    pub(crate) said: Vec<u8>,
+    /// How many records its listener gave, and in how many calls since it took something.
     given: u64,
-    calls: u64,
+    pub(crate) calls: u64,
 }
 
 /// Written by hand, so that it is proved once.
@@ -134,15 +111,16 @@ impl Drop for Line {
             speaks: _,
             is_shut: _,
             up,
-            down,
+            came: _,
             later,
+            down,
             said,
             given: _,
             calls: _,
         } = self;
         drop(up);
-        drop(down);
         drop(later);
+        drop(down);
         drop(said)
     }
 }
@@ -159,67 +137,46 @@ fn take_front(bytes: &mut Vec<u8>, most: usize, into: &mut [u8]) -> usize {
     count
 }
 
-/// How many bytes the record at a place has with its mark, if all of them are there.
-fn record_len(bytes: &[u8], at: usize) -> Option<usize> {
+/// The record at a place, with its mark, if all of it is there.
+fn record_at(bytes: &[u8], at: usize) -> Option<&[u8]> {
     let mut len = 0usize;
-    for place in 0..4usize {
-        let byte = *bytes.get(at.saturating_add(place))?;
-        let digit = if place == 0 { byte & 0x7f } else { byte };
-        len = len.saturating_mul(256).saturating_add(usize::from(digit));
+    for byte in bytes.get(at..at.saturating_add(4))?.iter() {
+        len = len.saturating_mul(256).saturating_add(usize::from(*byte));
     }
-    let len = len.saturating_add(4);
-    if at.saturating_add(len) > bytes.len() {
-        return None;
-    }
-    Some(len)
+    let end = at.saturating_add(len % 0x8000_0000).saturating_add(4);
+    bytes.get(at..end)
 }
 
-/// How many records of one fragment these bytes are.
-fn records_in(bytes: &[u8]) -> u64 {
-    let mut at = 0usize;
-    let mut count = 0u64;
-    for _record in 0..bytes.len() {
-        let Some(len) = record_len(bytes, at) else {
-            return count;
+/// What stands in bytes: how many records of one fragment, how many of them are farewells, and whether the last
+/// one is.
+#[derive(Clone, Copy)]
+pub struct Records {
+    pub count: u64,
+    pub farewells: u64,
+    pub is_last: bool,
+}
+
+impl Records {
+    /// Those that these bytes are.
+    pub fn of(bytes: &[u8]) -> Records {
+        let mut found = Records {
+            count: 0,
+            farewells: 0,
+            is_last: false,
         };
-        at = at.saturating_add(len);
-        count = count.saturating_add(1);
-    }
-    count
-}
-
-/// Whether a record is a farewell.
-fn is_farewell(record: Option<&[u8]>) -> bool {
-    match record {
-        Some(record) => record == FAREWELL.as_slice(),
-        None => false,
-    }
-}
-
-/// How many of these records of one fragment are farewells, and whether the last one is.
-fn farewells_in(bytes: &[u8]) -> (u64, bool) {
-    let mut at = 0usize;
-    let mut count = 0u64;
-    let mut is_last = false;
-    for _record in 0..bytes.len() {
-        let Some(len) = record_len(bytes, at) else {
-            return (count, is_last);
-        };
-        let next = at.saturating_add(len);
-        is_last = is_farewell(bytes.get(at..next));
-        if is_last {
-            count = count.saturating_add(1);
+        let mut at = 0usize;
+        for _record in 0..bytes.len() {
+            let Some(record) = record_at(bytes, at) else {
+                return found;
+            };
+            at = at.saturating_add(record.len());
+            found.count = found.count.saturating_add(1);
+            found.is_last = record == FAREWELL.as_slice();
+            if found.is_last {
+                found.farewells = found.farewells.saturating_add(1);
+            }
         }
-        at = next;
-    }
-    (count, is_last)
-}
-
-/// Adds bytes to what is on its way.
-fn put_behind(bytes: &mut Vec<u8>, more: &[u8]) -> Given {
-    match bytes.extend_from_slice(more) {
-        Ok(()) => Given::Taken,
-        Err(_) => Given::Memory,
+        found
     }
 }
 
@@ -231,114 +188,116 @@ impl Line {
         let (gives, rest) = split(rest, '/');
         let (twins, rest) = split(rest, '/');
         let (piece, sends) = split(rest, '/');
-        let (up, later) = parts_of(alloc, records, sends, out);
-        Line {
+        let mut line = Line {
             ending: Ending::of(ending),
             gives: number(gives),
             twins: number(twins),
             piece: number(piece) as usize,
             speaks: false,
             is_shut: false,
-            up,
+            up: Vec::new(alloc),
+            came: 0,
+            later: Vec::new(alloc),
             down: Vec::new(alloc),
-            later,
             said: Vec::new(alloc),
             given: 0,
             calls: 0,
+        };
+        for name in sends.split('+') {
+            match Wanted::of(name) {
+                Some(once) => out.push(&mut line.later, Later { once, bytes: 0 }),
+                None => {
+                    let more = bytes_of(alloc, records, name, out);
+                    out.note(line.put_up(more.as_slice()))
+                }
+            }
         }
+        line
+    }
+
+    /// These bytes come to its listener, behind all others.
+    fn put_up(&mut self, bytes: &[u8]) -> Result<(), AllocError> {
+        self.up.extend_from_slice(bytes)?;
+        match self.later.last_mut() {
+            Some(last) => last.bytes = last.bytes.saturating_add(bytes.len()),
+            None => self.came = self.came.saturating_add(bytes.len()),
+        }
+        Ok(())
     }
 
     /// Whether an end waits for what may come yet.
     fn is_quiet(&self, side: Side, is_silent: bool) -> bool {
-        let coming = match side {
-            Side::Dialler => &self.down,
-            Side::Listener => &self.up,
+        let has_come = match side {
+            Side::Dialler => !self.down.is_empty(),
+            Side::Listener => self.came > 0,
         };
         match self.ending {
             Ending::Deaf => !self.is_shut,
             Ending::Leaves => !self.is_shut && !self.speaks,
-            _ => coming.is_empty() && !self.is_shut && !(is_silent && self.later.is_empty()),
+            _ => !has_come && !self.is_shut && !(is_silent && self.later.is_empty()),
         }
     }
 
-    /// What comes later comes now, where it is time.
+    /// What comes next comes now.
     fn let_come(&mut self) {
         if !self.later.is_empty() {
-            let bytes = self.later.remove(0).into_bytes();
-            let added = self.up.extend_from_slice(bytes.as_slice());
-            drop(added);
-            drop(bytes);
+            let next = self.later.remove(0);
+            self.came = self.came.saturating_add(next.bytes);
         }
     }
 
-    /// Its listener gives these bytes.
-    fn give_down(&mut self, from: &[u8]) -> Given {
-        self.given = self.given.saturating_add(records_in(from));
-        self.calls = self.calls.saturating_add(1);
-        put_behind(&mut self.down, from)
+    /// What came to a side goes into the front of `into`; it answers how many bytes.
+    fn take(&mut self, side: Side, into: &mut [u8]) -> usize {
+        match side {
+            Side::Dialler => take_front(&mut self.down, self.piece, into),
+            Side::Listener => {
+                let count = take_front(&mut self.up, self.piece.min(self.came), into);
+                self.came = self.came.saturating_sub(count);
+                if count > 0 {
+                    self.calls = 0;
+                }
+                count
+            }
+        }
     }
 
     /// Its dialler gives these bytes, by which its end may come.
-    fn give_up(&mut self, from: &[u8]) -> Given {
+    fn give_up(&mut self, from: &[u8]) -> Result<(), GiveError> {
         if self.gives > 0 {
             self.gives -= 1;
-            return self.put_up(from);
-        }
-        match self.ending {
-            Ending::Cut => {
-                self.is_shut = true;
-                Given::Taken
+        } else {
+            match self.ending {
+                Ending::Cut => {
+                    self.is_shut = true;
+                    return Ok(());
+                }
+                Ending::Noise => return Ok(self.down.extend_from_slice(&NOISE)?),
+                Ending::Stuck => return Err(GiveError::Failed),
+                _ => {}
             }
-            Ending::Noise => put_behind(&mut self.down, &NOISE),
-            Ending::Stuck => Given::Failed,
-            _ => self.put_up(from),
         }
+        self.said.extend_from_slice(from)?;
+        Ok(self.put_up(from)?)
     }
 
-    /// These bytes come to its listener.
-    fn put_up(&mut self, from: &[u8]) -> Given {
-        match put_behind(&mut self.said, from) {
-            Given::Taken => put_behind(&mut self.up, from),
-            lacks => lacks,
-        }
-    }
-
-    /// An end gives these bytes.
-    fn give(&mut self, side: Side, from: &[u8]) -> Given {
+    /// An end gives these bytes. Where the dialler takes nothing it fails, once the line is shut.
+    pub(crate) fn give(&mut self, side: Side, from: &[u8]) -> Result<(), GiveError> {
         if self.is_shut {
-            return Given::Failed;
+            return Err(GiveError::Failed);
         }
         match (self.ending, side) {
             (Ending::Deaf | Ending::Leaves, _) => {
                 self.speaks = true;
-                Given::Waits
+                Err(GiveError::Failed)
             }
             (_, Side::Dialler) => self.give_up(from),
-            (_, Side::Listener) => self.give_down(from),
+            (_, Side::Listener) => {
+                self.given = self.given.saturating_add(Records::of(from).count);
+                self.calls = self.calls.saturating_add(1);
+                Ok(self.down.extend_from_slice(from)?)
+            }
         }
     }
-}
-
-/// What comes at once, and what comes later: the records that are named behind a `LINE@RECORDS`.
-fn parts_of(alloc: Global, records: &str, sends: &str, out: &mut Out) -> (Vec<u8>, Vec<Later>) {
-    let mut up = Vec::new(alloc);
-    let mut later = Vec::new(alloc);
-    for name in sends.split('+') {
-        if is_wanted(name) {
-            let part = Later {
-                once: wanted_of(name),
-                bytes: Vec::new(alloc),
-            };
-            out.push(&mut later, part);
-            continue;
-        }
-        let more = bytes_of(alloc, records, name, out);
-        match later.last_mut() {
-            Some(part) => out.note(part.bytes.extend_from_slice(more.as_slice())),
-            None => out.note(up.extend_from_slice(more.as_slice())),
-        }
-    }
-    (up, later)
 }
 
 /// The lines of a trial.
@@ -358,15 +317,18 @@ pub fn is_early(lines: &[Line], at: usize, until: Until) -> bool {
     };
     match until {
         Until::Speaker => !line.speaks,
-        Until::Shut => !line.is_shut,
+        Until::Heard => matches!(line.ending, Ending::Deaf | Ending::Leaves) && !line.is_shut,
         Until::Given { records } => line.given < records && !line.is_shut,
         Until::Taken => !(line.up.is_empty() && line.later.is_empty()) && !line.is_shut,
-        Until::News { side, is_silent } => line.is_quiet(side, is_silent) && !is_time(lines, line),
+        Until::News { side, is_silent } => line.is_quiet(side, is_silent) && !is_time(lines, at),
     }
 }
 
 /// Whether what comes next on a line may come now.
-fn is_time(lines: &[Line], line: &Line) -> bool {
+fn is_time(lines: &[Line], at: usize) -> bool {
+    let Some(line) = lines.get(at) else {
+        return false;
+    };
     let Some(next) = line.later.first() else {
         return false;
     };
@@ -376,52 +338,16 @@ fn is_time(lines: &[Line], line: &Line) -> bool {
     }
 }
 
-/// What comes later on a line comes now, where it is time.
-fn let_come(lines: &mut [Line], at: usize) {
-    let comes = match lines.get(at) {
-        Some(line) => is_time(lines, line),
-        None => false,
-    };
-    if comes {
-        if let Some(line) = lines.get_mut(at) {
-            line.let_come();
-        }
-    }
-}
-
-/// What is on its way to an end goes into the front of `into`; it answers how many bytes.
+/// What is on its way to an end goes into the front of `into`, where it is time; it answers how many bytes.
 pub fn take_at(lines: &mut [Line], at: usize, side: Side, into: &mut [u8]) -> usize {
-    let_come(lines, at);
+    let is_time = is_time(lines, at);
     let Some(line) = lines.get_mut(at) else {
         return 0;
     };
-    match side {
-        Side::Dialler => take_front(&mut line.down, line.piece, into),
-        Side::Listener => take_front(&mut line.up, line.piece, into),
+    if is_time {
+        line.let_come();
     }
-}
-
-/// An end gives these bytes.
-pub fn give_at(lines: &mut [Line], at: usize, side: Side, from: &[u8]) -> Given {
-    match lines.get_mut(at) {
-        Some(line) => line.give(side, from),
-        None => Given::Taken,
-    }
-}
-
-/// In how many calls a line's listener gave something.
-pub fn calls_at(lines: &[Line], at: usize) -> u64 {
-    match lines.get(at) {
-        Some(line) => line.calls,
-        None => 0,
-    }
-}
-
-/// They are counted from now on.
-pub fn forget_calls_at(lines: &mut [Line], at: usize) {
-    if let Some(line) = lines.get_mut(at) {
-        line.calls = 0;
-    }
+    line.take(side, into)
 }
 
 /// Whether there is one twin more.
@@ -434,38 +360,4 @@ pub fn pairs_at(lines: &mut [Line], at: usize) -> bool {
     }
     line.twins -= 1;
     true
-}
-
-/// Ends a line both ways.
-pub fn shut_at(lines: &mut [Line], at: usize) {
-    if let Some(line) = lines.get_mut(at) {
-        line.is_shut = true;
-    }
-}
-
-/// Ends all lines.
-pub fn shut_all(lines: &mut [Line]) {
-    for line in lines.iter_mut() {
-        line.is_shut = true;
-    }
-}
-
-/// How many farewells each line's dialler gave, and whether one was the last record.
-pub fn put_farewells(lines: &[Line], out: &mut Out) {
-    for line in lines.iter() {
-        let (count, is_last) = farewells_in(line.said.as_slice());
-        out.text("farewells");
-        out.number(count);
-        out.text(if is_last { " last\n" } else { "\n" });
-    }
-}
-
-/// Whether each line is shut, and what its listener gave.
-pub fn put_lines(lines: &[Line], out: &mut Out) {
-    for line in lines.iter() {
-        out.text(" shut");
-        out.text(if line.is_shut { " true\n" } else { " false\n" });
-        out.bytes(line.down.as_slice());
-        out.text("\n");
-    }
 }

@@ -1,6 +1,7 @@
 //! The outside of a run, in memory: what it is given, and which of its calls fail. Where memory
-//! runs out for a part, the output is short of it; so no part has an early exit.
+//! runs out for a part, the output is short of it; so few parts have an early exit.
 
+use crate::port::{Port, PortEnd, end_of};
 use crate::trial::Trial;
 use crate::tried_store::TriedStore;
 use lb_base::items::Items;
@@ -10,70 +11,60 @@ use row_text::out::Out;
 use row_text::text::copied;
 use shared_bytes::SharedBytes;
 use std::alloc::{AllocError, Global};
+use std::sync::{Arc, Wait};
 use store::mem_store::MemStore;
 use store::record::{ContentRecord, Head, Kept, NodeKind, NodeRecord};
 
 /// The size of the largest file.
 const FILE_MOST: usize = 67_108_864;
 
-/// The calls that fail: the one of this number, if there is one.
-fn failing(alloc: Global, call: Option<u64>, out: &mut Out) -> Items<u64> {
-    match call {
+/// The calls that fail: the one of the number that a setting has, if it is there.
+fn failing(alloc: Global, trial: &Trial<'_>, key: &str, out: &mut Out) -> Items<u64> {
+    match trial.setting(key) {
         Some(call) => copied(alloc, &[call], out),
         None => Items::new(alloc),
     }
 }
 
-/// The record of a file.
-fn node(alloc: Global, id: u64, parent: u64, letter: u8, out: &mut Out) -> Kept {
-    Kept::Node(NodeRecord {
-        id,
+/// The record of a file: `a`, or one of the letters behind it.
+fn put_node(alloc: Global, records: &mut Vec<Kept>, at: u8, parent: u64, out: &mut Out) {
+    let node = NodeRecord {
+        id: u64::from(at) + 2,
         parent,
         kind: NodeKind::File,
-        name: copied(alloc, &[letter], out),
-    })
+        name: copied(alloc, &[b'a'.saturating_add(at)], out),
+    };
+    out.push(records, Kept::Node(node))
 }
 
-/// As many zeros as the largest file has.
-fn zeros(alloc: Global) -> Result<SharedBytes, AllocError> {
-    let bytes = vec![in alloc; 0u8; FILE_MOST]?;
-    Ok(SharedBytes::new(alloc, Items::from_vec(bytes))?)
-}
-
-/// The records of a file of the root in its first version.
-fn put_file(alloc: Global, records: &mut Vec<Kept>, at: u8, bytes: &SharedBytes, out: &mut Out) {
-    let id = u64::from(at) + 2;
-    let node = node(alloc, id, 1, b'a'.saturating_add(at), out);
-    out.push(records, node);
-    match bytes.share() {
-        Ok(bytes) => {
-            let content = ContentRecord {
-                id,
-                version: 1,
-                bytes,
-            };
-            out.push(records, Kept::Content(content))
-        }
-        Err(_) => out.lack(),
-    }
-}
-
-/// The records of 16 files of the root, each of which has as many zeros as a file may.
-fn put_files(alloc: Global, records: &mut Vec<Kept>, out: &mut Out) {
-    let Ok(zeros) = zeros(alloc) else {
+/// The records of so many files of the root in their first version, each of which has so many such bytes.
+fn put_files(
+    alloc: Global,
+    records: &mut Vec<Kept>,
+    files: u8,
+    byte: u8,
+    len: usize,
+    out: &mut Out,
+) {
+    let Ok(bytes) = vec![in alloc; byte; len] else {
         return out.lack();
     };
-    for at in 0..16u8 {
-        put_file(alloc, records, at, &zeros, out);
-    }
-}
-
-/// Those of the file `a` with one byte.
-fn put_kept(alloc: Global, records: &mut Vec<Kept>, out: &mut Out) {
-    let bytes = copied(alloc, b"a", out);
-    match SharedBytes::new(alloc, bytes) {
-        Ok(bytes) => put_file(alloc, records, 0, &bytes, out),
-        Err(_) => out.lack(),
+    let Ok(bytes) = SharedBytes::new(alloc, Items::from_vec(bytes)) else {
+        return out.lack();
+    };
+    for at in 0..files {
+        put_node(alloc, records, at, 1, out);
+        match bytes.share() {
+            Ok(bytes) => {
+                let content = ContentRecord {
+                    id: u64::from(at) + 2,
+                    version: 1,
+                    bytes,
+                };
+                out.push(records, Kept::Content(content))
+            }
+            Err(_) => out.lack(),
+        }
     }
 }
 
@@ -85,34 +76,41 @@ fn records(alloc: Global, trial: &Trial<'_>, out: &mut Out) -> Vec<Kept> {
         out.push(&mut records, Kept::Head(Head { next, changes: 1 }));
     }
     if let Some(parent) = trial.setting("parent") {
-        let node = node(alloc, 2, parent, b'a', out);
-        out.push(&mut records, node);
+        put_node(alloc, &mut records, 0, parent, out);
     }
     if trial.setting("kept").is_some() {
-        put_kept(alloc, &mut records, out);
+        put_files(alloc, &mut records, 1, b'a', 1, out);
     }
     if trial.setting("full").is_some() {
-        put_files(alloc, &mut records, out);
+        put_files(alloc, &mut records, 16, 0, FILE_MOST, out);
     }
     records
 }
 
 /// The store.
-pub fn store(alloc: Global, trial: &Trial<'_>, out: &mut Out) -> Result<TriedStore, AllocError> {
-    let records = records(alloc, trial, out);
-    let store = MemStore::new(
-        Items::from_vec(records),
-        failing(alloc, trial.setting("store"), out),
-    );
+fn store(alloc: Global, trial: &Trial<'_>, out: &mut Out) -> Result<TriedStore, AllocError> {
+    let records = Items::from_vec(records(alloc, trial, out));
+    let store = MemStore::new(records, failing(alloc, trial, "store", out));
     TriedStore::new(alloc, store, trial.setting("settle"))
+}
+
+/// An end's store, and what it has of a port.
+pub fn around<R: Wait + Copy>(
+    rt: R,
+    alloc: Global,
+    port: &Arc<Port>,
+    trial: &Trial<'_>,
+    out: &mut Out,
+) -> Result<(TriedStore, PortEnd<R>), AllocError> {
+    let store = store(alloc, trial, out)?;
+    let end = end_of(rt, port, trial)?;
+    Ok((store, end))
 }
 
 /// The file `h` with the bytes `abc`, and no other.
 pub fn files(alloc: Global, trial: &Trial<'_>, out: &mut Out) -> MemFiles {
-    let mut files = MemFiles::new(
-        Items::new(alloc),
-        failing(alloc, trial.setting("files"), out),
-    );
+    let failing = failing(alloc, trial, "files", out);
+    let mut files = MemFiles::new(Items::new(alloc), failing);
     if files.put(alloc, "h", b"abc").is_err() {
         out.lack();
     }

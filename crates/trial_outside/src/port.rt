@@ -1,15 +1,12 @@
 //! A port at which lines in memory begin, whose ends may be in threads of their own, and the network by
 //! which an end comes to them. They tell nothing of the bytes.
 
-ghost use Rattle.std.specs.Prelude.{◌≡◌, ◌≤◌, None, Err, OnErr};
+ghost use Rattle.std.specs.Prelude.{◌≡◌, ◌≤◌, None, OnErr};
 ghost use Rattle.lb_base.specs.Causes.{Rose};
 
-use crate::line::{
-    Given, Line, Side, Until, calls_at, forget_calls_at, give_at, is_early, lines_of, pairs_at,
-    put_farewells, put_lines, shut_all, shut_at, take_at,
-};
+use crate::line::{Line, Records, Side, Until, is_early, lines_of, pairs_at, take_at};
 use crate::trial::Trial;
-use crate::wanted::{Wanted, is_wanted, wanted_of};
+use crate::wanted::Wanted;
 use lb_base::faults::one_more;
 use lb_base::sink::GiveError;
 use lb_base::source::Failed;
@@ -58,8 +55,8 @@ impl Drop for Port {
 fn wanted_in(alloc: Global, trial: &Trial<'_>, out: &mut Out) -> Vec<Wanted> {
     let mut all = Vec::new(alloc);
     for word in trial.word("rests").split(',') {
-        if is_wanted(word) {
-            out.push(&mut all, wanted_of(word));
+        if let Some(wanted) = Wanted::of(word) {
+            out.push(&mut all, wanted);
         }
     }
     all
@@ -87,7 +84,9 @@ impl Port {
     /// Ends all lines both ways.
     pub fn shut<R: Wait>(&self, rt: &R) {
         let mut lines = self.lines.lock(rt);
-        shut_all(&mut lines);
+        for line in lines.iter_mut() {
+            line.is_shut = true;
+        }
         drop(lines);
         self.news.notify_all();
     }
@@ -100,42 +99,9 @@ impl Port {
             .wait_while(rt, lines, |lines| is_early(lines, at, until))
     }
 
-    /// Waits until the first line's listener gave so many records.
-    pub fn await_records<R: Wait>(&self, rt: &R, records: u64) {
-        self.await_given(rt, Wanted { line: 0, records })
-    }
-
-    /// Waits until all that is to come on the first line was taken.
-    pub fn await_taken<R: Wait>(&self, rt: &R) {
-        drop(self.held(rt, 0, Until::Taken))
-    }
-
-    /// In how many calls the first line's listener gave something.
-    pub fn calls<R: Wait>(&self, rt: &R) -> u64 {
-        let lines = self.lines.lock(rt);
-        let calls = calls_at(&lines, 0);
-        drop(lines);
-        calls
-    }
-
-    /// Calls are counted from now on.
-    pub fn forget_calls<R: Wait>(&self, rt: &R) {
-        let mut lines = self.lines.lock(rt);
-        forget_calls_at(&mut lines, 0);
-        drop(lines);
-    }
-
-    /// Waits until somebody has something to say on the first line, to a dialler that takes nothing.
-    pub fn await_speaker<R: Wait>(&self, rt: &R) {
-        drop(self.held(rt, 0, Until::Speaker))
-    }
-
-    /// Waits until the listener of a line gave so many records.
-    fn await_given<R: Wait>(&self, rt: &R, wanted: Wanted) {
-        let until = Until::Given {
-            records: wanted.records,
-        };
-        drop(self.held(rt, wanted.line, until))
+    /// Waits for the line at this place.
+    pub fn wait<R: Wait>(&self, rt: &R, at: usize, until: Until) {
+        drop(self.held(rt, at, until))
     }
 
     /// Waits for what a rest is to wait for.
@@ -143,73 +109,77 @@ impl Port {
         let is_first = self.rests.load(Ordering::SeqCst) == 0;
         for (at, wanted) in self.wanted.iter().enumerate() {
             if (at == 0) == is_first {
-                self.await_given(rt, *wanted);
+                let records = wanted.records;
+                self.wait(rt, wanted.line, Until::Given { records });
             }
         }
         self.rests.fetch_add(1, Ordering::SeqCst);
     }
 
     /// How many rests there were.
-    fn rests(&self) -> u64 {
+    pub fn rests(&self) -> u64 {
         self.rests.load(Ordering::SeqCst)
+    }
+
+    /// In how many calls the first line's listener gave something since it took something.
+    pub fn put_calls<R: Wait>(&self, rt: &R, out: &mut Out) {
+        let lines = self.lines.lock(rt);
+        if let Some(line) = lines.get(0) {
+            out.say(" calls", &[line.calls]);
+            out.line("");
+        }
+        drop(lines);
     }
 
     /// How many farewells each line's dialler gave, and whether one was the last record.
     pub fn put_farewells<R: Wait>(&self, rt: &R, out: &mut Out) {
         let lines = self.lines.lock(rt);
-        put_farewells(&lines, out);
+        for line in lines.iter() {
+            let said = Records::of(line.said.as_slice());
+            out.say("farewells", &[said.farewells]);
+            out.line(if said.is_last { " last" } else { "" });
+        }
         drop(lines);
     }
 
     /// Whether each line is shut, and what its listener gave.
     pub fn put_lines<R: Wait>(&self, rt: &R, out: &mut Out) {
         let lines = self.lines.lock(rt);
-        put_lines(&lines, out);
+        for line in lines.iter() {
+            out.line(if line.is_shut {
+                " shut true"
+            } else {
+                " shut false"
+            });
+            out.bytes(line.down.as_slice());
+            out.line("");
+        }
         drop(lines);
     }
 }
 
-/// Rests at a port.
-pub struct PortRest<R> {
+/// The pace of an end: rests at a port, and a clock that goes on by them, by 100 milliseconds in each, by a
+/// million where the first waits for something, or not at all.
+pub struct PortPace<R> {
     rt: R,
     port: Arc<Port>,
 }
 
-impl<R: Drop> Drop for PortRest<R> {
+impl<R: Drop> Drop for PortPace<R> {
     fn drop(self) {
-        let PortRest { rt, port } = self;
+        let PortPace { rt, port } = self;
         drop(rt);
         drop(port)
     }
 }
 
-impl<R> PortRest<R> {
-    /// How many rests there were.
-    pub fn rests(&self) -> u64 {
-        self.port.rests()
-    }
-}
-
-impl<R: Wait> Rest for PortRest<R> {
+impl<R: Wait> Rest for PortPace<R> {
     fn rest(&self) {
         self.port.rest(&self.rt)
     }
 }
 
-/// A clock that goes on by rests: 100 milliseconds in each, a million where the first waits for something,
-/// or not at all.
-pub struct PortClock {
-    port: Arc<Port>,
-}
-
-impl Drop for PortClock {
-    fn drop(self) {
-        let PortClock { port } = self;
-        drop(port)
-    }
-}
-
-impl Clock for PortClock {
+impl<R> Clock for PortPace<R> {
     fn now(&self) -> u64 {
         let step = if self.port.is_stopped {
             0
@@ -229,7 +199,7 @@ pub struct PortLink<R> {
     side: Side,
     /// The line's place.
     at: usize,
-    faults: u64,
+    pub faults: u64,
 }
 
 impl<R: Drop> Drop for PortLink<R> {
@@ -247,11 +217,6 @@ impl<R: Drop> Drop for PortLink<R> {
 }
 
 impl<R: Copy> PortLink<R> {
-    /// A listener's link to the first line.
-    pub fn first(rt: R, port: &Arc<Port>) -> Result<PortLink<R>, AllocError> {
-        PortLink::new(rt, port, Side::Listener, 0)
-    }
-
     /// A link of the side to the line at this place.
     fn new(rt: R, port: &Arc<Port>, side: Side, at: usize) -> Result<PortLink<R>, AllocError> {
         Ok(PortLink {
@@ -262,11 +227,25 @@ impl<R: Copy> PortLink<R> {
             faults: 0,
         })
     }
+}
 
-    /// How many faults there were.
-    pub fn faults(&self) -> u64 {
-        self.faults
-    }
+/// Three links of a listener to the first line.
+pub struct Three<R> {
+    pub takes: PortLink<R>,
+    pub gives: PortLink<R>,
+    pub further: PortLink<R>,
+}
+
+/// Those of a port.
+pub fn three_of<R: Copy>(rt: R, port: &Arc<Port>) -> Result<Three<R>, AllocError> {
+    let takes = PortLink::new(rt, port, Side::Listener, 0)?;
+    let gives = PortLink::new(rt, port, Side::Listener, 0)?;
+    let further = PortLink::new(rt, port, Side::Listener, 0)?;
+    Ok(Three {
+        takes,
+        gives,
+        further,
+    })
 }
 
 impl<R: Wait + Copy> Link for PortLink<R> {
@@ -290,14 +269,16 @@ impl<R: Wait + Copy> Link for PortLink<R> {
 
     fn give(&mut self, from: &[u8]) -> Result<usize, GiveError> {
         let mut lines = self.port.lines.lock(&self.rt);
-        let given = give_at(&mut lines, self.at, self.side, from);
+        let given = match lines.get_mut(self.at) {
+            Some(line) => line.give(self.side, from),
+            None => Ok(()),
+        };
         drop(lines);
         self.port.news.notify_all();
         match given {
-            Given::Taken => return Ok(from.len()),
-            Given::Memory => return Err(GiveError::Memory),
-            Given::Failed => {}
-            Given::Waits => drop(self.port.held(&self.rt, self.at, Until::Shut)),
+            Ok(()) => return Ok(from.len()),
+            Err(GiveError::Memory) => return Err(GiveError::Memory),
+            Err(GiveError::Failed) => self.port.wait(&self.rt, self.at, Until::Heard),
         }
         self.faults = one_more(self.faults);
         Err(GiveError::Failed)
@@ -305,7 +286,9 @@ impl<R: Wait + Copy> Link for PortLink<R> {
 
     fn shut(&mut self) {
         let mut lines = self.port.lines.lock(&self.rt);
-        shut_at(&mut lines, self.at);
+        if let Some(line) = lines.get_mut(self.at) {
+            line.is_shut = true;
+        }
         drop(lines);
         self.port.news.notify_all();
     }
@@ -334,13 +317,13 @@ pub struct PortNet<R> {
     failing: Option<u64>,
     /// How many more calls of `accept` meet a fault that passes.
     passing: u64,
-    lines: usize,
+    pub lines: usize,
     next: usize,
     made: u64,
     /// The port at which it listens, if at one.
     at: Option<u16>,
     accepted: u64,
-    faults: u64,
+    pub faults: u64,
 }
 
 impl<R: Drop> Drop for PortNet<R> {
@@ -365,66 +348,40 @@ impl<R: Drop> Drop for PortNet<R> {
 /// What an end has of a port.
 pub struct PortEnd<R> {
     pub network: PortNet<R>,
-    pub clock: PortClock,
-    pub rest: PortRest<R>,
+    pub clock: PortPace<R>,
+    pub rest: PortPace<R>,
 }
 
-/// The network, the clock and the rest of an end.
-pub fn end_of<R: Wait + Copy>(
+/// The network, the clock and the rest of an end. There was no fault so far.
+pub(crate) fn end_of<R: Wait + Copy>(
     rt: R,
     port: &Arc<Port>,
     trial: &Trial<'_>,
 ) -> Result<PortEnd<R>, AllocError> {
-    let lines: Arc<Port> = port.clone()?;
+    let lines = port.lines.lock(&rt).len();
+    let dials: Arc<Port> = port.clone()?;
     let clocks: Arc<Port> = port.clone()?;
     let rests: Arc<Port> = port.clone()?;
+    let network = PortNet {
+        rt,
+        port: dials,
+        failing: trial.setting("network"),
+        passing: trial.setting("passing").unwrap_or(0),
+        lines,
+        next: 0,
+        made: 0,
+        at: None,
+        accepted: 0,
+        faults: 0,
+    };
     Ok(PortEnd {
-        network: PortNet::new(rt, lines, trial),
-        clock: PortClock { port: clocks },
-        rest: PortRest { rt, port: rests },
+        network,
+        clock: PortPace { rt, port: clocks },
+        rest: PortPace { rt, port: rests },
     })
 }
 
 impl<R: Wait + Copy> PortNet<R> {
-    /// A network with no fault so far.
-    fn new(rt: R, port: Arc<Port>, trial: &Trial<'_>) -> PortNet<R> {
-        let lines = port.lines.lock(&rt).len();
-        PortNet {
-            rt,
-            port,
-            failing: trial.setting("network"),
-            passing: trial.setting("passing").unwrap_or(0),
-            lines,
-            next: 0,
-            made: 0,
-            at: None,
-            accepted: 0,
-            faults: 0,
-        }
-    }
-
-    /// How many faults there were.
-    pub fn faults(&self) -> u64 {
-        self.faults
-    }
-
-    /// How many lines there are.
-    pub fn lines(&self) -> u32 {
-        self.lines.min(64) as u32
-    }
-
-    /// Counts a fault, and tells it.
-    fn fail<T, E>(&mut self, error: E) -> Result<T, E>
-        ensures failed { result ≡ Err error }
-        ensures at { self.new.at ≡ self.old.at }
-        ensures accepted { self.new.accepted ≡ self.old.accepted }
-        ensures later { self.old.faults ≤ self.new.faults }
-        ensures cause { OnErr result (Rose self.old.faults self.new.faults) }
-    {
-        self.faults = one_more(self.faults);
-        Err(error)
-    }
-
     /// Counts a call, and answers whether it is the one that is to fail.
     fn fails(&mut self) -> bool
         ensures { (self.new.at ≡ self.old.at) × (self.new.accepted ≡ self.old.accepted) × (self.new.faults ≡ self.old.faults) }
@@ -434,30 +391,22 @@ impl<R: Wait + Copy> PortNet<R> {
         self.failing == Some(made)
     }
 
-    /// A link of the side to the next line.
-    fn link(&mut self, side: Side) -> Result<PortLink<R>, Failed>
+    /// A link of the side to the next of so many lines.
+    fn link(&mut self, side: Side, lines: usize) -> Result<PortLink<R>, Failed>
         ensures at { self.new.at ≡ self.old.at }
         ensures accepted { self.new.accepted ≡ self.old.accepted }
         ensures later { self.old.faults ≤ self.new.faults }
         ensures cause { OnErr result (Rose self.old.faults self.new.faults) }
     {
         let at = self.next;
-        self.next = at.saturating_add(1);
-        match PortLink::new(self.rt, &self.port, side, at) {
-            Ok(link) => Ok(link),
-            Err(_) => self.fail(Failed),
+        if !self.fails() && at < lines {
+            self.next = at.saturating_add(1);
+            if let Ok(link) = PortLink::new(self.rt, &self.port, side, at) {
+                return Ok(link);
+            }
         }
-    }
-
-    /// Whether this call of `accept` is one of those that meet a fault which passes.
-    fn passes(&mut self) -> bool
-        ensures { (self.new.at ≡ self.old.at) × (self.new.accepted ≡ self.old.accepted) × (self.new.faults ≡ self.old.faults) }
-    {
-        if self.passing == 0 {
-            return false;
-        }
-        self.passing -= 1;
-        true
+        self.faults = one_more(self.faults);
+        Err(Failed)
     }
 }
 
@@ -474,7 +423,8 @@ impl<R: Wait + Copy> Network for PortNet<R> {
 
     fn listen(&mut self, port: u16) -> Result<(), Failed> {
         if self.fails() {
-            return self.fail(Failed);
+            self.faults = one_more(self.faults);
+            return Err(Failed);
         }
         self.at = Some(port);
         Ok(())
@@ -485,13 +435,11 @@ impl<R: Wait + Copy> Network for PortNet<R> {
     }
 
     fn accept(&mut self) -> Result<PortLink<R>, AcceptError> {
-        if self.passes() {
+        if self.passing > 0 {
+            self.passing -= 1;
             return Err(AcceptError::Passing);
         }
-        if self.fails() {
-            return self.fail(AcceptError::Failed);
-        }
-        match self.link(Side::Listener) {
+        match self.link(Side::Listener, usize::MAX) {
             Ok(link) => {
                 self.accepted = one_more(self.accepted);
                 Ok(link)
@@ -501,9 +449,6 @@ impl<R: Wait + Copy> Network for PortNet<R> {
     }
 
     fn dial(&mut self, _port: u16) -> Result<PortLink<R>, Failed> {
-        if self.fails() || self.next >= self.lines {
-            return self.fail(Failed);
-        }
-        self.link(Side::Dialler)
+        self.link(Side::Dialler, self.lines)
     }
 }

@@ -32,7 +32,8 @@ pub struct Typist<'a> {
     failing: Option<u64>,
     calls: u64,
     answers: &'a AtomicU64,
-    seen: Vec<u64>,
+    /// How many answers had appeared before each call.
+    pub seen: Vec<u64>,
     faults: u64,
 }
 
@@ -64,8 +65,8 @@ impl<'a> Typist<'a> {
     ) -> Typist<'a> {
         Typist {
             text,
-            zeros: trial.size("zeros", 0),
-            piece: trial.size("gives", 1000),
+            zeros: trial.setting("zeros").unwrap_or(0) as usize,
+            piece: trial.setting("gives").unwrap_or(1000) as usize,
             is_by_line: trial.setting("typed").is_some(),
             failing: trial.setting("source"),
             calls: 0,
@@ -73,21 +74,6 @@ impl<'a> Typist<'a> {
             seen: Vec::new(alloc),
             faults: 0,
         }
-    }
-
-    /// How many answers had appeared before each call.
-    pub fn seen(&self) -> &[u64] {
-        self.seen.as_slice()
-    }
-
-    /// Gives so many zeros of those that are left, as there is room for.
-    fn give_zeros(&mut self, into: &mut [u8]) -> usize
-        ensures { self.new.faults ≡ self.old.faults }
-    {
-        let count = into.len().min(self.zeros);
-        into[..count].fill(0);
-        self.zeros -= count;
-        count.min(into.len())
     }
 
     /// Gives what is typed next.
@@ -122,18 +108,19 @@ impl<'a> Source for Typist<'a> {
             self.faults = one_more(self.faults);
             return Err(Failed);
         }
-        let count = if self.zeros > 0 {
-            self.give_zeros(into)
-        } else {
-            self.type_on(into)
-        };
+        if self.zeros == 0 {
+            return Ok(self.type_on(into).min(into.len()));
+        }
+        let count = into.len().min(self.zeros);
+        into[..count].fill(0);
+        self.zeros -= count;
         Ok(count.min(into.len()))
     }
 }
 
 /// What was written. It counts how many answers have appeared, one a call.
 pub struct Screen<'a> {
-    text: Vec<u8>,
+    pub text: Vec<u8>,
     piece: usize,
     /// The call that fails, and the one that answers that memory ran out, numbered from 0.
     failing: Option<u64>,
@@ -163,18 +150,13 @@ impl<'a> Screen<'a> {
     pub fn new(alloc: Global, trial: &Trial<'_>, answers: &'a AtomicU64) -> Screen<'a> {
         Screen {
             text: Vec::new(alloc),
-            piece: trial.size("takes", 1000),
+            piece: trial.setting("takes").unwrap_or(1000) as usize,
             failing: trial.setting("sink"),
             starved: trial.setting("starved"),
             calls: 0,
             answers,
             faults: 0,
         }
-    }
-
-    /// What was written.
-    pub fn text(&self) -> &[u8] {
-        self.text.as_slice()
     }
 }
 

@@ -25,69 +25,46 @@ pub fn split(text: &str, mark: char) -> (&str, &str) {
     (front.trim(), behind.trim())
 }
 
-impl<'x> Trial<'x> {
-    /// The number of the setting `KEY=NUMBER`, if it is there.
-    pub fn setting(&self, key: &str) -> Option<u64> {
-        for word in self.settings.split_whitespace() {
-            let (name, number) = split(word, '=');
-            if name == key {
-                return Some(text::number(number));
-            }
-        }
-        None
-    }
-
-    /// The same, or another number where it isn't there.
-    pub fn size(&self, key: &str, other: u64) -> usize {
-        self.setting(key).unwrap_or(other) as usize
-    }
-
-    /// The word of the setting `KEY=WORD`; an empty one where it isn't there.
-    pub fn word(&self, key: &str) -> &'x str {
-        for word in self.settings.split_whitespace() {
-            let (name, word) = split(word, '=');
-            if name == key {
-                return word;
-            }
-        }
-        ""
-    }
-
-    /// The input: the records that are named behind a `+`, or a text in which `;` ends a line.
-    pub fn input(&self, alloc: Global, out: &mut Out) -> Vec<u8> {
-        match self.input.strip_prefix('+') {
-            Some(names) => bytes_of(alloc, self.records, names, out),
-            None => lines_of(alloc, self.input, out),
-        }
-    }
-}
-
-/// The bytes of a text in which `;` ends a line.
-fn lines_of(alloc: Global, text: &str, out: &mut Out) -> Vec<u8> {
-    let mut bytes = Vec::new(alloc);
-    for byte in text.bytes() {
-        let one = if byte == b';' { b'\n' } else { byte };
-        out.note(bytes.extend_from_slice(&[one]));
-    }
-    bytes
-}
-
-/// The digits of the record that has the name.
-fn digits_of<'a>(records: &'a str, name: &str) -> &'a str {
-    for line in records.lines() {
-        let (first, digits) = split(line, ' ');
-        if first == name {
-            return digits;
+/// What stands behind a key and such a mark in the parts of a text; nothing where the key isn't there.
+fn found<'a>(text: &'a str, apart: char, mark: char, key: &str) -> &'a str {
+    for part in text.split(apart) {
+        let (name, value) = split(part, mark);
+        if name == key {
+            return value;
         }
     }
     ""
 }
 
-/// Adds the bytes that these digits in hexadecimal are.
-fn put_digits(alloc: Global, digits: &str, bytes: &mut Vec<u8>, out: &mut Out) {
-    match hex::decode(alloc, digits) {
-        Ok(more) => out.note(bytes.extend_from_slice(more.as_slice())),
-        Err(_) => out.lack(),
+impl<'x> Trial<'x> {
+    /// The word of the setting `KEY=WORD`; an empty one where it isn't there.
+    pub fn word(&self, key: &str) -> &'x str {
+        found(self.settings, ' ', '=', key)
+    }
+
+    /// The number of the setting `KEY=NUMBER`, if it is there.
+    pub fn setting(&self, key: &str) -> Option<u64> {
+        let word = self.word(key);
+        if word.is_empty() {
+            None
+        } else {
+            Some(text::number(word))
+        }
+    }
+
+    /// The input: the records that are named behind a `+`, or a text in which `;` ends a line.
+    pub fn input(&self, alloc: Global, out: &mut Out) -> Vec<u8> {
+        if let Some(names) = self.input.strip_prefix('+') {
+            return bytes_of(alloc, self.records, names, out);
+        }
+        let mut bytes = Vec::new(alloc);
+        out.note(bytes.extend_from_slice(self.input.as_bytes()));
+        for byte in bytes.iter_mut() {
+            if *byte == b';' {
+                *byte = b'\n';
+            }
+        }
+        bytes
     }
 }
 
@@ -95,7 +72,10 @@ fn put_digits(alloc: Global, digits: &str, bytes: &mut Vec<u8>, out: &mut Out) {
 pub fn bytes_of(alloc: Global, records: &str, names: &str, out: &mut Out) -> Vec<u8> {
     let mut bytes = Vec::new(alloc);
     for name in names.split('+') {
-        put_digits(alloc, digits_of(records, name), &mut bytes, out);
+        match hex::decode(alloc, found(records, '\n', ' ', name)) {
+            Ok(more) => out.note(bytes.extend_from_slice(more.as_slice())),
+            Err(_) => out.lack(),
+        }
     }
     bytes
 }

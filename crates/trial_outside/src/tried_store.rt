@@ -5,6 +5,7 @@ ghost use Rattle.std.specs.Prelude.{None};
 
 use lb_base::faults::one_more;
 use lb_base::source::Failed;
+use row_text::out::Out;
 use std::alloc::{AllocError, Global};
 use std::sync::atomic::{AtomicBool, AtomicU64, Ordering};
 use std::sync::{Arc, Wait};
@@ -21,17 +22,6 @@ struct Settles {
     /// The call that fails, numbered from 0, if one does.
     failing: Option<u64>,
     has_failed: AtomicBool,
-}
-
-impl Settles {
-    /// Counts a call, and answers whether it goes through.
-    fn next(&self) -> bool {
-        let made = self.made.fetch_add(1, Ordering::SeqCst);
-        if self.failing == Some(made) {
-            self.has_failed.store(true, Ordering::SeqCst);
-        }
-        !self.has_failed.load(Ordering::SeqCst)
-    }
 }
 
 /// What makes a store sure.
@@ -51,11 +41,14 @@ impl Syncs for TriedSyncs {
     ghost is_sure = { λ _. Unit {0} };
 
     fn sync<W: Wait>(&self, _rt: &W) -> Result<(), Failed> {
-        if self.settles.next() {
-            Ok(())
-        } else {
-            Err(Failed)
+        let made = self.settles.made.fetch_add(1, Ordering::SeqCst);
+        if self.settles.failing == Some(made) {
+            self.settles.has_failed.store(true, Ordering::SeqCst);
         }
+        if self.settles.has_failed.load(Ordering::SeqCst) {
+            return Err(Failed);
+        }
+        Ok(())
     }
 }
 
@@ -98,14 +91,12 @@ impl TriedStore {
         })
     }
 
-    /// How many records there are.
-    pub fn len(&self) -> usize {
-        self.store.records().len()
-    }
-
-    /// How often it was to be made sure.
-    pub fn settles(&self) -> u64 {
-        self.settles.made.load(Ordering::SeqCst)
+    /// How many records there are, and, where it is asked for, how often they were to be made sure.
+    pub fn put(&self, is_counted: bool, out: &mut Out) {
+        out.say(" records", &[self.store.records().len() as u64]);
+        if is_counted {
+            out.say(" settles", &[self.settles.made.load(Ordering::SeqCst)]);
+        }
     }
 }
 

@@ -1,7 +1,6 @@
 //! What is waited for until something else may come: `LINE@RECORDS`, that the listener of a line, counted
 //! from 0, gave so many records.
 
-use crate::trial::split;
 use row_text::text::number;
 
 /// So many records that were given on a line.
@@ -11,16 +10,13 @@ pub struct Wanted {
     pub records: u64,
 }
 
-/// Whether a word says so.
-pub fn is_wanted(word: &str) -> bool {
-    word.split_once('@').is_some()
-}
-
-/// What a word says.
-pub fn wanted_of(word: &str) -> Wanted {
-    let (line, records) = split(word, '@');
-    Wanted {
-        line: number(line) as usize,
-        records: number(records),
+impl Wanted {
+    /// What a word says, if it says so.
+    pub fn of(word: &str) -> Option<Wanted> {
+        let (line, records) = word.split_once('@')?;
+        Some(Wanted {
+            line: number(line) as usize,
+            records: number(records),
+        })
     }
 }

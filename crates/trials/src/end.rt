@@ -14,9 +14,9 @@ use std::alloc::{AllocError, Global};
 use std::sync::atomic::AtomicU64;
 use std::sync::{Arc, Wait};
 use std::thread::Threads;
-use trial_outside::left;
-use trial_outside::outside::{files, store};
-use trial_outside::port::{Port, PortClock, PortEnd, PortLink, PortNet, PortRest, end_of};
+use trial_outside::left::{put_left, put_written};
+use trial_outside::outside::{around, files};
+use trial_outside::port::{Port, PortEnd, PortLink, PortNet, PortPace};
 use trial_outside::screen::{Screen, Typist};
 use trial_outside::trial::Trial;
 use trial_outside::tried_store::TriedStore;
@@ -28,8 +28,8 @@ type Whole<'a, R> = Outside<
     TriedStore,
     MemFiles,
     PortNet<R>,
-    PortClock,
-    PortRest<R>,
+    PortPace<R>,
+    PortPace<R>,
 >;
 
 /// The program's run. It stands alone because its contract is large.
@@ -44,23 +44,6 @@ fn run_whole<'a, R: Threads + Wait + Sync + Send + Copy + Drop>(
     run_asked(rt, alloc, asked, whole)
 }
 
-/// How a run ended, and what is left of its outside.
-fn put_end<R: Wait + Copy>(
-    trial: &Trial<'_>,
-    status: Status,
-    whole: &Whole<'_, R>,
-    unpaired: &Option<PortLink<R>>,
-    out: &mut Out,
-) {
-    out.text(": status");
-    out.number(u64::from(status.code()));
-    left::put_seen(trial, &whole.source, out);
-    left::put_served(trial, &whole.network, &whole.store, out);
-    left::put_written(&whole.sink, out);
-    left::put_unpaired(unpaired, out);
-    left::put_files(trial, &whole.files, out)
-}
-
 /// The outside of an end, over these bytes of input.
 fn whole_of<'a, R: Wait + Copy>(
     rt: &R,
@@ -71,12 +54,12 @@ fn whole_of<'a, R: Wait + Copy>(
     answers: &'a AtomicU64,
     out: &mut Out,
 ) -> Result<Whole<'a, R>, AllocError> {
-    let store = store(alloc, trial, out)?;
+    let (store, end) = around(*rt, alloc, port, trial, out)?;
     let PortEnd {
         network,
         clock,
         rest,
-    } = end_of(*rt, port, trial)?;
+    } = end;
     Ok(Outside {
         source: Typist::new(alloc, trial, input, answers),
         sink: Screen::new(alloc, trial, answers),
@@ -88,23 +71,29 @@ fn whole_of<'a, R: Wait + Copy>(
     })
 }
 
-/// Runs an end's words over these bytes of input, and tells how it ended.
+/// Runs an end's words in this outside, and tells how it ended, and what is left of it.
 fn put_run<'a, R: Threads + Wait + Sync + Send + Copy + Drop>(
     rt: &R,
     alloc: Global,
-    port: &Arc<Port>,
     trial: &Trial<'_>,
-    input: &'a [u8],
-    answers: &'a AtomicU64,
+    whole: Whole<'a, R>,
     out: &mut Out,
-) -> Result<(), AllocError> {
-    let whole = whole_of(rt, alloc, port, trial, input, answers, out)?;
+) {
     let asked = asked_of(alloc, trial.words, out);
     let (status, whole, unpaired) = run_whole(rt, alloc, asked, whole);
-    put_end(trial, status, &whole, &unpaired, out);
+    out.text(": status");
+    out.number(u64::from(status.code()));
+    put_written(
+        trial,
+        &whole.source,
+        &whole.network,
+        &whole.store,
+        &whole.sink,
+        out,
+    );
+    put_left(trial, &unpaired, &whole.files, out);
     drop(whole);
-    drop(unpaired);
-    Ok(())
+    drop(unpaired)
 }
 
 /// Runs a trial's end, shuts the port behind it, and tells how it ended.
@@ -117,8 +106,10 @@ pub fn run_end<R: Threads + Wait + Sync + Send + Copy + Drop>(
     let mut out = Out::new(alloc);
     let input = trial.input(alloc, &mut out);
     let answers = AtomicU64::new(0);
-    let run = put_run(rt, alloc, port, trial, input.as_slice(), &answers, &mut out);
-    out.note(run);
+    match whole_of(rt, alloc, port, trial, input.as_slice(), &answers, &mut out) {
+        Ok(whole) => put_run(rt, alloc, trial, whole, &mut out),
+        Err(_) => out.lack(),
+    }
     port.shut(rt);
     out
 }

@@ -7,19 +7,19 @@ mod runs;
 mod words;
 
 use row_text::out::Out;
+use rows::files::Part;
 use std::io::Print;
 use std::rt::Clock;
 use std::sync::Wait;
 use std::thread::Threads;
 use std::{fs, io};
+use trial_outside::rowless;
 
 /// What goes through the rows of a file.
 #[derive(Clone, Copy)]
 enum Kind {
-    /// The calls of the protocol.
-    Calls,
-    /// The parts of traces.
-    Traces,
+    /// The parts of the protocol and of traces.
+    Parts(Part),
     /// The program over an outside in memory.
     Runs,
     /// A server alone.
@@ -27,24 +27,21 @@ enum Kind {
 }
 
 /// The files of rows.
-const FILES: [(Kind, &str); 19] = [
-    (Kind::Calls, "items"),
-    (Kind::Calls, "handles"),
-    (Kind::Calls, "streams"),
-    (Kind::Calls, "headers"),
-    (Kind::Calls, "nfs"),
-    (Kind::Calls, "lbfs"),
-    (Kind::Calls, "procedures"),
-    (Kind::Calls, "records"),
-    (Kind::Calls, "shown"),
-    (Kind::Traces, "lines"),
-    (Kind::Traces, "contents"),
-    (Kind::Traces, "long"),
-    (Kind::Traces, "refusals"),
-    (Kind::Traces, "clocks"),
-    (Kind::Traces, "prints"),
-    (Kind::Traces, "cuts"),
-    (Kind::Traces, "histories"),
+const FILES: [(Kind, &str); 16] = [
+    (Kind::Parts(Part::Items), "items"),
+    (Kind::Parts(Part::Handles), "handles"),
+    (Kind::Parts(Part::Streams), "streams"),
+    (Kind::Parts(Part::Headers), "headers"),
+    (Kind::Parts(Part::Bodies), "nfs"),
+    (Kind::Parts(Part::Bodies), "lbfs"),
+    (Kind::Parts(Part::Records), "records"),
+    (Kind::Parts(Part::Lines), "lines"),
+    (Kind::Parts(Part::Contents), "contents"),
+    (Kind::Parts(Part::Refusals), "refusals"),
+    (Kind::Parts(Part::Clocks), "clocks"),
+    (Kind::Parts(Part::Prints), "prints"),
+    (Kind::Parts(Part::Cuts), "cuts"),
+    (Kind::Parts(Part::Histories), "histories"),
     (Kind::Runs, "runs"),
     (Kind::Sessions, "sessions"),
 ];
@@ -58,7 +55,7 @@ fn print_out<R: AllocGlobal + Print>(rt: &R, out: Out) -> io::Result<()> {
 /// Prints what comes of the trials without a row.
 fn print_plain<R: Threads + Wait + Clock + Sync + AllocGlobal + Print>(rt: &R) -> io::Result<()> {
     let mut out = Out::new(rt.alloc());
-    rowless::all::put(rt, rt.alloc(), &mut out);
+    rowless::put(rt, rt.alloc(), &mut out);
     print_out(rt, out)
 }
 
@@ -76,8 +73,7 @@ fn print_file<R: Threads + Wait + Clock + Sync + Send + Copy + Drop + AllocGloba
     out.text(file);
     out.text("\n");
     match kind {
-        Kind::Calls => rows::files::put_rows(alloc, file, text, &mut out),
-        Kind::Traces => rows_trace::files::put_rows(alloc, file, text, &mut out),
+        Kind::Parts(part) => rows::files::put_rows(alloc, part, text, &mut out),
         Kind::Runs => runs::put_rows(rt, alloc, records, text, &mut out),
         Kind::Sessions => rows_session::rows::put_rows(rt, alloc, records, text, &mut out),
     }

@@ -25,46 +25,8 @@ fn behind<'x>(words: &'x str, option: &str) -> &'x str {
     ""
 }
 
-/// The options of `serve`.
-fn serve_of(alloc: Global, words: &str, port: u16, out: &mut Out) -> Option<Asked>
-    ensures { IsFew (command_in result) }
-{
-    let term = number(behind(words, "--term"));
-    let sessions = number(behind(words, "--sessions")).min(SESSIONS_EVER_MOST) as u32;
-    match StorePath::copy_of(alloc, behind(words, "--store")) {
-        Ok(store) => Some(Asked::Serve(ServeOptions {
-            port,
-            term,
-            sessions,
-            store,
-            unsynced: false,
-        })),
-        Err(_) => {
-            out.lack();
-            None
-        }
-    }
-}
-
-/// The option of `check`.
-fn check_of(alloc: Global, words: &str, out: &mut Out) -> Option<Asked>
-    ensures { IsFew (command_in result) }
-{
-    match StorePath::copy_of(alloc, behind(words, "--store")) {
-        Ok(store) => Some(Asked::Check(CheckOptions { store })),
-        Err(_) => {
-            out.lack();
-            None
-        }
-    }
-}
-
-/// The cache file of `mount`, where there is one.
-fn cache_of(alloc: Global, words: &str, out: &mut Out) -> Option<StorePath> {
-    let name = behind(words, "--cache");
-    if name.is_empty() {
-        return None;
-    }
+/// A path of this name; none where memory runs out.
+fn path_of(alloc: Global, name: &str, out: &mut Out) -> Option<StorePath> {
     match StorePath::copy_of(alloc, name) {
         Ok(path) => Some(path),
         Err(_) => {
@@ -74,32 +36,41 @@ fn cache_of(alloc: Global, words: &str, out: &mut Out) -> Option<StorePath> {
     }
 }
 
-/// The options of `mount`.
-fn mount_of(alloc: Global, words: &str, port: u16, out: &mut Out) -> Option<Asked>
-    ensures { IsFew (command_in result) }
-{
-    let drift = number(behind(words, "--drift"));
-    Some(Asked::Mount(MountOptions {
-        port,
-        drift,
-        cache: cache_of(alloc, words, out),
-        keep: KEEP,
-    }))
-}
-
 /// What a row's words ask for; nothing where they are no command.
 pub fn asked_of(alloc: Global, words: &str, out: &mut Out) -> Option<Asked>
     ensures { IsFew (command_in result) }
 {
     let (command, options) = split(words, ' ');
     let port = number(behind(options, "--port")).min(PORT_MOST) as u16;
+    let cache = behind(options, "--cache");
     match command {
         "replay" => Some(Asked::Command(Command::OfInput(InputCommand::Replay(View::History)))),
         "cut" => Some(Asked::Command(Command::OfInput(InputCommand::Cut))),
         "show" => Some(Asked::Command(Command::OfInput(InputCommand::Show))),
-        "serve" => serve_of(alloc, options, port, out),
-        "check" => check_of(alloc, options, out),
-        "mount" => mount_of(alloc, options, port, out),
+        "serve" => {
+            let store = path_of(alloc, behind(options, "--store"), out)?;
+            Some(Asked::Serve(ServeOptions {
+                port,
+                term: number(behind(options, "--term")),
+                sessions: number(behind(options, "--sessions")).min(SESSIONS_EVER_MOST) as u32,
+                store,
+                unsynced: false,
+            }))
+        }
+        "check" => {
+            let store = path_of(alloc, behind(options, "--store"), out)?;
+            Some(Asked::Check(CheckOptions { store }))
+        }
+        "mount" => Some(Asked::Mount(MountOptions {
+            port,
+            drift: number(behind(options, "--drift")),
+            cache: if cache.is_empty() {
+                None
+            } else {
+                path_of(alloc, cache, out)
+            },
+            keep: KEEP,
+        })),
         _ => None,
     }
 }

@@ -1,5 +1,5 @@
 use Rattle.turn_post.specs.Passes.{IsPassOf}
-use Rattle.rowless.proofs.turns.add_all.Given as goal
+use Rattle.trial_outside.proofs.rowless.turns.add_all.Given as goal
 
 abbrev pub invariant-loop-at : goal.invariant-loop-at
 invariant-loop-at g l = IsPassOf l.post l.pass

@@ -3,7 +3,7 @@
 ghost use Rattle.std.specs.Prelude.{◌<◌};
 
 use lb_base::mem_source::{MemSource, SureSource};
-use lb_base::source::{ReadError, Source, read_all};
+use lb_base::source::{Source, read_all};
 use row_text::out::Out;
 use row_text::text::copied;
 use std::alloc::Global;
@@ -16,49 +16,41 @@ fn source_of(alloc: Global, piece: usize, failing: &[u64], out: &mut Out) -> Mem
     MemSource::new(bytes, piece, copied(alloc, failing, out))
 }
 
-/// How many bytes are left of it.
-fn put_left(source: &MemSource, out: &mut Out) {
-    out.text(", left");
-    out.number(source.rest().len() as u64);
-    out.text("\n")
-}
-
-/// How many bytes were read.
-fn len_of(read: Result<Vec<u8>, ReadError>) -> Result<usize, ReadError> {
-    match read {
-        Ok(bytes) => Ok(bytes.len()),
-        Err(error) => Err(error),
-    }
-}
-
-/// What comes of reading at most so many bytes.
+/// What comes of reading at most so many bytes, by so many at once: the answer, how many bytes are left, and the
+/// faults.
 pub fn put_read(alloc: Global, piece: usize, limit: usize, failing: &[u64], out: &mut Out)
     requires { 0 < piece }
 {
     let mut source = source_of(alloc, piece, failing, out);
-    let read = len_of(read_all(alloc, limit, &mut source));
-    out.text("by");
-    out.number(piece as u64);
-    out.text(" up to");
-    out.number(limit as u64);
-    out.text(": ");
+    let read = match read_all(alloc, limit, &mut source) {
+        Ok(bytes) => Ok(bytes.len()),
+        Err(error) => Err(error),
+    };
+    out.say(
+        "read",
+        &[
+            piece as u64,
+            limit as u64,
+            source.rest().len() as u64,
+            source.faults(),
+        ],
+    );
+    out.text(" ");
     out.value(&read);
-    out.text(", faults");
-    out.number(source.faults());
-    put_left(&source, out)
+    out.line("")
 }
 
 /// What comes of two calls of a source of which the first fails.
 pub fn put_takes(alloc: Global, out: &mut Out) {
     let mut source = source_of(alloc, 9, &[0], out);
     let mut room = [0u8; 4];
-    out.text("taken: ");
     out.value(&source.take(&mut room));
-    out.text(", then ");
+    out.text(" ");
     out.value(&source.take(&mut room));
     out.text(" ");
     out.value(&room);
-    put_left(&source, out)
+    out.say(" left", &[source.rest().len() as u64]);
+    out.line("")
 }
 
 /// Whether all comes of a source that never fails, and how many bytes are left.
@@ -68,9 +60,6 @@ pub fn put_sure(alloc: Global, out: &mut Out) {
         Ok(bytes) => bytes.as_slice() == b"hello".as_slice(),
         Err(_) => false,
     };
-    out.text("sure: whole ");
-    out.truth(is_whole);
-    out.text(", left");
-    out.number(source.rest().len() as u64);
-    out.text("\n")
+    out.say("sure", &[is_whole as u64, source.rest().len() as u64]);
+    out.line("")
 }

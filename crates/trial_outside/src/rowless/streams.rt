@@ -44,40 +44,25 @@ impl Write for Idle {
     }
 }
 
-/// What a stream that is interrupted so many times gives, and its faults.
-fn put_taken(interrupts: u32, out: &mut Out) {
+/// What comes of a stream that is interrupted so many times, and takes and gives nothing: the answers, and the faults.
+pub fn put_idle(interrupts: u32, out: &mut Out) {
     let mut room = [0u8; 4];
     let mut source = StreamSource::new(Idle { interrupts });
-    out.value(&source.take(&mut room));
-    out.text(", faults");
-    out.number(source.faults())
-}
-
-/// What comes of giving to one, and its faults.
-fn put_given(interrupts: u32, out: &mut Out) {
     let mut sink = StreamSink::new(Idle { interrupts });
+    out.value(&source.take(&mut room));
+    out.text(" ");
     out.value(&give_all(&mut sink, b"x"));
-    out.text(", faults");
-    out.number(sink.faults())
-}
-
-/// What comes of a stream that is interrupted so many times, and takes and gives nothing.
-pub fn put_idle(interrupts: u32, out: &mut Out) {
-    out.text("interrupted");
-    out.number(u64::from(interrupts));
-    out.text(" times: ");
-    put_taken(interrupts, out);
-    out.text("; ");
-    put_given(interrupts, out);
-    out.text("\n")
+    out.say(
+        " interrupted",
+        &[interrupts as u64, source.faults(), sink.faults()],
+    );
+    out.line("")
 }
 
 /// What comes of giving to a stream in memory.
 pub fn put_memory(alloc: Global, out: &mut Out) {
     let mut sink = StreamSink::new(Vec::new(alloc));
-    out.text("to memory: ");
     out.value(&sink.give(b"hello"));
-    out.text(", faults");
-    out.number(sink.faults());
-    out.text("\n")
+    out.say(" faults", &[sink.faults()]);
+    out.line("")
 }

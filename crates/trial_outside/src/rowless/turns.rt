@@ -3,17 +3,45 @@
 //! that last longer than a thread looks before it sleeps, and so many that it takes its place in the queue:
 //! where one isn't woken, the trial doesn't end.
 
+ghost use Rattle.std.specs.Prelude.{◌≡◌, ◌∷◌, ◌++◌, [], OnOk, OnErr};
 ghost use Rattle.turn_post.specs.Passes.{IsPassOf};
 
-use crate::tally::Tally;
 use row_text::out::Out;
-use std::alloc::Global;
+use std::alloc::{AllocError, Global};
 use std::rt::Clock;
 use std::sync::Wait;
 use std::thread;
 use std::thread::{Threads, join};
 use std::time::Duration;
+use turn_post::journaled::Journaled;
 use turn_post::post::{Pass, Post};
+
+/// Numbers that threads added, in the order of their turns.
+#[derive(Drop)]
+struct Tally {
+    entries: Vec<u64>,
+}
+
+impl Tally {
+    /// Adds a number. The one error is running out of memory, and changes nothing.
+    fn add(&mut self, number: u64) -> Result<(), AllocError>
+        ensures ok { OnOk result (self.new.entries.items ≡ self.old.entries.items ++ number ∷ []) }
+        ensures err { OnErr result (self.new.entries.items ≡ self.old.entries.items) }
+    {
+        self.entries.push(number)?;
+        Ok(())
+    }
+}
+
+impl Journaled for Tally {
+    type Entry = u64;
+
+    ghost journal = { λ t. t.entries.items };
+
+    fn count(&self) -> u64 {
+        self.entries.len() as u64
+    }
+}
 
 /// The turns of threads.
 #[derive(Clone, Copy)]
@@ -99,22 +127,17 @@ fn is_whole(numbers: &[u64], first: u64, count: u64) -> bool {
     next == first.wrapping_add(count)
 }
 
-/// What the third pass is told, and what a fresh turn finds.
+/// What the third pass is told, what a fresh turn finds, and how many threads' own are whole there.
 fn put_found(front: u64, numbers: &[u64], turns: Turns, out: &mut Out) {
-    out.text("turns: front");
-    out.number(front);
-    out.text(", found");
-    out.number(numbers.len() as u64);
-    out.text(", whole");
+    let mut whole = 0u64;
     for at in 0..turns.threads {
-        out.text(" ");
-        out.truth(is_whole(
-            numbers,
-            at.saturating_add(1).saturating_mul(1000),
-            turns.count,
-        ));
+        let first = at.saturating_add(1).saturating_mul(1000);
+        if is_whole(numbers, first, turns.count) {
+            whole = whole.saturating_add(1);
+        }
     }
-    out.text("\n")
+    out.say("turns", &[front, numbers.len() as u64, whole]);
+    out.line("")
 }
 
 /// The turns of threads, and what is found behind them.
@@ -137,12 +160,13 @@ fn put_turns<R: Threads + Wait + Clock + Sync>(
     let front = post.front(&mut idle);
     let turn = post.enter(rt, idle);
     let tally = turn.finish();
-    put_found(front, tally.entries(), turns, out)
+    put_found(front, tally.entries.as_slice(), turns, out)
 }
 
 /// What comes of the turns at a post of their own.
 fn put_post<R: Threads + Wait + Clock + Sync>(rt: &R, alloc: Global, turns: Turns, out: &mut Out) {
-    match Post::new(alloc, Tally::new(alloc)) {
+    let entries = Vec::new(alloc);
+    match Post::new(alloc, Tally { entries }) {
         Ok((post, pass)) => put_turns(rt, &post, pass, turns, out),
         Err(_) => out.lack(),
     }

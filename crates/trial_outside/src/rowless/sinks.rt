@@ -8,27 +8,14 @@ use std::alloc::Global;
 
 /// What comes of giving bytes: the answer, how many bytes the sink has then, and its faults.
 fn give(sink: &mut MemSink, bytes: &[u8], out: &mut Out) {
-    let given = give_all(sink, bytes);
-    out.text("(");
-    out.value(&given);
-    out.text(",");
-    out.number(sink.held().len() as u64);
-    out.text(",");
-    out.number(sink.faults());
-    out.text("), ")
-}
-
-/// Whether a sink that never fails takes all.
-fn put_sure(alloc: Global, out: &mut Out) {
-    let mut sink = SureSink::new(alloc, 2);
-    let given = give_all(&mut sink, b"hello");
-    out.text("; sure ");
-    out.truth(given.is_ok() && sink.held() == b"hello".as_slice());
-    out.text("\n")
+    out.value(&give_all(sink, bytes));
+    out.numbers(&[sink.held().len() as u64, sink.faults()]);
+    out.text(", ")
 }
 
 /// What comes of giving three times to a sink that takes two bytes at once, whose second call
-/// answers that memory ran out, and whose third one fails; and whether it has all then.
+/// answers that memory ran out, and whose third one fails; whether it has all then; and whether a sink that never
+/// fails takes all.
 pub fn put(alloc: Global, out: &mut Out) {
     let failing = copied(alloc, &[2u64], out);
     let starved = copied(alloc, &[1u64], out);
@@ -37,7 +24,10 @@ pub fn put(alloc: Global, out: &mut Out) {
     give(&mut sink, b"hello", out);
     give(&mut sink, b"llo", out);
     give(&mut sink, b"llo", out);
-    out.text("whole ");
-    out.truth(sink.held() == b"hello".as_slice());
-    put_sure(alloc, out)
+    let mut sure = SureSink::new(alloc, 2);
+    let is_given = give_all(&mut sure, b"hello").is_ok();
+    let is_whole = sink.held() == b"hello".as_slice();
+    let is_sure = sure.held() == b"hello".as_slice();
+    out.say("whole", &[is_whole as u64, is_given as u64, is_sure as u64]);
+    out.line("")
 }

@@ -1,6 +1,12 @@
-//! What comes of all of them.
+//! What no row of data can show: lists, sources and sinks of which calls fail, streams that are interrupted, and
+//! turns at a post.
 
-use crate::{lists, sinks, sources, streams, turns};
+mod lists;
+mod sinks;
+mod sources;
+mod streams;
+mod turns;
+
 use row_text::out::Out;
 use std::alloc::Global;
 use std::rt::Clock;

@@ -1,0 +1,77 @@
+//! Histories that are made from a number: long ones, and many small ones.
+
+use crate::histories::Rows;
+use row_text::out::Out;
+use std::alloc::Global;
+
+/// The words of these operations, and how they end.
+const WORDS: [&str; 5] = ["close", "make", "remove", "rename", "open"];
+
+const ENDS: [&str; 6] = [" Opened", " Closed", " 70", " Lost", " Running", " Done"];
+
+/// File 2 is closed and opened again, so many times; the last open got the content.
+pub fn rounds(alloc: Global, count: u64, last: &str) -> Out {
+    let mut ops = Out::new(alloc);
+    let most = count.saturating_mul(2);
+    for step in 1..most.saturating_add(1) {
+        let is_open = step % 2 == 0;
+        ops.text(if is_open { "open" } else { "close" });
+        ops.numbers(&[2, step, step, step]);
+        ops.text(if is_open { " Opened " } else { " Closed " });
+        ops.line(if step == most { last } else { "b" })
+    }
+    ops
+}
+
+/// The next number of a fixed sequence, below the bound.
+fn next(state: &mut u64, bound: u64) -> u64 {
+    *state = state
+        .wrapping_mul(6_364_136_223_846_793_005)
+        .wrapping_add(1_442_695_040_888_963_407);
+    if bound == 0 {
+        return 0;
+    }
+    (*state >> 33) % bound
+}
+
+/// One of the words, of which there are so many.
+fn put_some(state: &mut u64, words: &[&str], ops: &mut Out) {
+    if let Some(word) = words.get(next(state, words.len() as u64) as usize) {
+        ops.text(word)
+    }
+}
+
+/// A moment below 8, or none.
+fn put_moment(state: &mut u64, ops: &mut Out) {
+    if next(state, 4) == 0 {
+        ops.text(" -")
+    } else {
+        ops.number(next(state, 8))
+    }
+}
+
+/// An operation on file 2 or 3, whose begin, end and point are any.
+fn put_op(state: &mut u64, ops: &mut Out) {
+    put_some(state, &WORDS, ops);
+    ops.number(next(state, 2).wrapping_add(2));
+    ops.number(next(state, 4));
+    put_moment(state, ops);
+    put_moment(state, ops);
+    put_some(state, &ENDS, ops);
+    put_some(state, &[" a\n", " b\n"], ops)
+}
+
+/// Of so many histories of one to four operations, counted from 1, those that are legal.
+pub fn put_many(alloc: Global, rows: &mut Rows, count: u64, out: &mut Out) {
+    let mut state = 1u64;
+    out.text(" legal:");
+    for place in 1..count.saturating_add(1) {
+        rows.ops = Out::new(alloc);
+        for _ in 0..next(&mut state, 4).wrapping_add(1) {
+            put_op(&mut state, &mut rows.ops);
+        }
+        if rows.is_legal(alloc, 0, "", out) {
+            out.number(place)
+        }
+    }
+}
