@@ -1,10 +1,9 @@
 //! Which calls of an object in memory are to fail. Its state stands in `specs/Memory.antt`.
 
-ghost use Rattle.std.specs.Prelude.{◌≡◌, ℕ, ◌+◌, ◌-◌, ◌^◌, ◌↔◌, [], min, Contains, IsTrue};
+ghost use Rattle.std.specs.Prelude.{◌≡◌, ℕ, ◌+◌, ◌-◌, ◌^◌, ◌↔◌, min, Contains, IsTrue};
 
 use lb_base::faults::one_more;
 use lb_base::items::Items;
-use std::alloc::Global;
 use std::marker::Model;
 
 /// A list of the calls that are to fail, by their numbers, and how many calls there were.
@@ -35,16 +34,6 @@ impl Calls {
         ensures { result ≡ record { made = 0; failing = failing } }
     {
         Calls { made: 0, failing }
-    }
-
-    /// No call was made yet, and none is to fail. It takes no memory.
-    pub fn sure(alloc: Global) -> Calls
-        ensures { result ≡ record { made = 0; failing = [] } }
-    {
-        Calls {
-            made: 0,
-            failing: Items::new(alloc),
-        }
     }
 
     /// Counts a call, and answers whether it is to fail.

@@ -5,11 +5,3 @@ pub trait Rest {
     /// Rests a little.
     fn rest(&self);
 }
-
-/// No rest at all.
-#[derive(Clone, Copy, Drop)]
-pub struct NoRest;
-
-impl Rest for NoRest {
-    fn rest(&self) {}
-}
