@@ -1,6 +1,6 @@
 //! The slots of a file's chunks while it is fetched: which chunks have come, and their bytes. Chunks that
 //! come in their order lie one behind another in one buffer. Once all are here that buffer is the file's content,
-//! and none is copied then.
+//! and none is copied then. What lies there is hashed as a whole while more comes, by whoever has time for it.
 //!
 //! Contracts see a slot for each chunk, with its bytes where they have come. `specs/Slots.antt` says how these
 //! lie.
@@ -9,9 +9,16 @@
 ghost use Rattle.std.specs.Prelude.{◌≡◌, ◌<◌, ◌+◌, ◌++◌, ◌∷◌, [], length, drop, replicate, slice_set, Option, Some, None, List, ℕ, IfOk, unwrap_or, true, false};
 ghost use Rattle.chunk_slots.specs.Slots.{behind, first_len, has_piece, slots_bytes, slots_of, total};
 
+use cut_bytes::ahead::Ahead;
 use lb_base::items::{Bytes, Items};
 use std::alloc::{AllocError, Global};
 use std::marker::Model;
+
+/// The least that is lent to be hashed, in bytes.
+const LENT_LEAST: usize = 1_048_576;
+
+/// The least that is to come yet where something is lent, so that it is back before the last byte comes.
+const LEFT_LEAST: u64 = 2_097_152;
 
 /// A slot for each chunk of a file. Contracts see their list, each with the bytes of its chunk where those have
 /// come.
@@ -22,15 +29,23 @@ pub struct Slots {
     lens: Vec<usize>,
     /// A slot for each chunk, with bytes that aren't in front, or came again.
     apart: Vec<Option<Bytes>>,
+    /// What was hashed of the bytes in front, unless it is lent: a hint.
+    ahead: Option<Ahead>,
 }
 
 /// By hand, so that the crates above prove nothing of how the parts are dropped.
 impl Drop for Slots {
     fn drop(self) {
-        let Slots { front, lens, apart } = self;
+        let Slots {
+            front,
+            lens,
+            apart,
+            ahead,
+        } = self;
         drop(front);
         drop(lens);
         drop(apart);
+        drop(ahead);
     }
 }
 
@@ -172,6 +187,19 @@ fn are_in_front(lens: &Vec<usize>, apart: &Vec<Option<Bytes>>) -> bool
     }
 }
 
+/// What was hashed, with what came behind it. None where memory is wanting, or more was hashed than came.
+fn grown(ahead: Ahead, front: &[u8]) -> Option<Ahead> {
+    let mut ahead = ahead;
+    let had = ahead.len();
+    if had > front.len() {
+        return None;
+    }
+    match ahead.add(&front[had..]) {
+        Ok(()) => Some(ahead),
+        Err(_want) => None,
+    }
+}
+
 impl Slots {
     /// No slot. It takes no memory.
     pub fn none(alloc: Global) -> Slots
@@ -181,6 +209,7 @@ impl Slots {
             front: Vec::new(alloc),
             lens: Vec::new(alloc),
             apart: Vec::new(alloc),
+            ahead: None,
         }
     }
 
@@ -191,7 +220,12 @@ impl Slots {
         let apart = empty_slots(alloc, count)?;
         let lens = Vec::with_capacity(alloc, count)?;
         let front = Vec::with_capacity(alloc, size)?;
-        Ok(Slots { front, lens, apart })
+        Ok(Slots {
+            front,
+            lens,
+            apart,
+            ahead: None,
+        })
     }
 
     /// The bytes of the chunk at this place have come: its slot has them. Where they are copied their own memory
@@ -209,12 +243,52 @@ impl Slots {
         )
     }
 
+    /// Whether so much came behind what is hashed that more should be, of a content of so many bytes.
+    pub fn may_lend(&self, size: u64) -> bool {
+        let hashed = match &self.ahead {
+            Some(ahead) => ahead.len(),
+            None => 0,
+        };
+        let came = self.front.len();
+        came.saturating_sub(hashed) >= LENT_LEAST && size.saturating_sub(came as u64) >= LEFT_LEAST
+    }
+
+    /// What was lent is back, and is lent anew with what came since, where that is much. It is a copy, to be
+    /// hashed where nobody waits for these slots.
+    pub fn lend(&mut self, alloc: Global, back: Option<Ahead>, size: u64) -> Option<Ahead>
+        ensures { self.new ≡ self.old }
+    {
+        if back.is_some() {
+            self.ahead = back;
+        }
+        if !self.may_lend(size) {
+            return None;
+        }
+        let ahead = match self.ahead.take() {
+            Some(ahead) => ahead,
+            None => Ahead::new(alloc, size as usize).ok()?,
+        };
+        grown(ahead, &self.front)
+    }
+
+    /// What was hashed while the bytes came, if it is back.
+    pub fn take_ahead(&mut self) -> Option<Ahead>
+        ensures { self.new ≡ self.old }
+    {
+        self.ahead.take()
+    }
+
     /// The bytes of all chunks that have come, one behind the other. They are copied only where chunks came out of
     /// their order. The one error is running out of memory.
     pub fn into_bytes(self, alloc: Global) -> Result<Bytes, AllocError>
         ensures { IfOk result (λ bytes. bytes ≡ slots_bytes self) }
     {
-        let Slots { front, lens, apart } = self;
+        let Slots {
+            front,
+            lens,
+            apart,
+            ahead: _ahead,
+        } = self;
         if are_in_front(&lens, &apart) {
             return Ok(Items::from_vec(front));
         }

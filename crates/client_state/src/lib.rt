@@ -9,6 +9,7 @@
 pub mod bounding;
 pub mod fields;
 pub mod hints;
+pub mod lending;
 pub mod local;
 pub mod noting;
 pub mod parts;

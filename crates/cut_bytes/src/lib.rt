@@ -9,6 +9,9 @@ ghost use Rattle.std.specs.Prelude.{◌≡◌, [], length, IfOk};
 ghost use Rattle.sha1.specs.Sha1.{sha1};
 ghost use Rattle.chunk_cut.specs.Chunks.{chunks_of};
 
+pub mod ahead;
+
+use crate::ahead::Ahead;
 use chunk_cut::chunk::Chunk;
 use lb_base::items::Items;
 use shared_bytes::SharedBytes;
@@ -85,12 +88,11 @@ impl CutBytes {
         })
     }
 
-    /// These bytes with their digest, which is found now where it wasn't before, and so not again. It takes no
-    /// memory.
-    pub fn hashed(self) -> CutBytes
+    /// These bytes with their digest, which was found so.
+    fn with_digest(self, found: [u8; 20]) -> CutBytes
+        requires { found ≡ sha1 self }
         ensures { result ≡ self }
     {
-        let found = Some(self.digest());
         let CutBytes {
             bytes,
             chunks,
@@ -99,7 +101,29 @@ impl CutBytes {
         CutBytes {
             bytes,
             chunks,
-            digest: found,
+            digest: Some(found),
+        }
+    }
+
+    /// These bytes with their digest, which is found now where it wasn't before, and so not again. It takes no
+    /// memory.
+    pub fn hashed(self) -> CutBytes
+        ensures { result ≡ self }
+    {
+        let found = self.digest();
+        self.with_digest(found)
+    }
+
+    /// As `hashed`, of bytes whose front was hashed while they came, if it was.
+    pub fn hashed_by(self, ahead: Option<Ahead>) -> CutBytes
+        ensures { result ≡ self }
+    {
+        match ahead {
+            Some(ahead) => {
+                let found = ahead.digest_of(self.as_slice());
+                self.with_digest(found)
+            }
+            None => self.hashed(),
         }
     }
 

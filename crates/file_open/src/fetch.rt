@@ -9,6 +9,7 @@ ghost use Rattle.chunk_cut.specs.Places.{end_of};
 use crate::{calls, shape};
 use chunk_slots::Slots;
 use client_state::task::{Fetch, ReadCall};
+use cut_bytes::CutBytes;
 use hash_calls::call::Hashes;
 use lb_base::items::{Bytes, Items};
 use nfs3_calls::call::Piece;
@@ -81,10 +82,12 @@ pub fn take_piece(alloc: Global, piece: &mut Piece) -> Piece
     }
 }
 
-/// The bytes of all chunks that have come, with an owner of their own.
-pub fn slots_bytes(alloc: Global, slots: Slots) -> Result<SharedBytes, AllocError>
+/// The bytes of all chunks that have come, with their digest. What of it was found while they came isn't found anew.
+pub fn slots_bytes(alloc: Global, mut slots: Slots) -> Result<CutBytes, AllocError>
     ensures { IfOk result (λ b. b ≡ slots_bytes slots) }
 {
+    let ahead = slots.take_ahead();
     let bytes = slots.into_bytes(alloc)?;
-    Ok(SharedBytes::new(alloc, bytes)?)
+    let content = CutBytes::whole(SharedBytes::new(alloc, bytes)?);
+    Ok(content.hashed_by(ahead))
 }

@@ -21,7 +21,6 @@ use client_state::parts;
 use client_state::state::ClientState;
 use client_state::step::{BadPeer, ClientStep, Outcome};
 use client_state::task::{Fetch, ReadCall, Stage};
-use cut_bytes::CutBytes;
 use hash_calls::call::Hashes;
 use nfs3_calls::call::Piece;
 use std::alloc::{AllocError, Global};
@@ -168,8 +167,7 @@ fn opened_with(
     ensures held { OnErr result (IsHeld state.new) }
 {
     let slots = mem::replace(&mut fetch.slots, Slots::none(alloc));
-    let all = fetch::slots_bytes(alloc, slots)?;
-    let content = CutBytes::whole(all).hashed();
+    let content = fetch::slots_bytes(alloc, slots)?;
     let version = fetch.version;
     let mut step = kept::keep_open(alloc, state, file, version, content, fetch.first, bytes)?;
     let missed = caching::enter_fetched(state, file, &*fetch, from);

@@ -20,6 +20,7 @@ use crate::said::Said;
 use crate::walk::Walk;
 use crate::walking::{receive, stop};
 use cut_bytes::CutBytes;
+use cut_bytes::ahead::Ahead;
 use links::files::Files;
 use open_close::client::Client;
 use record_ends::end::End;
@@ -169,6 +170,19 @@ impl<F: Files> Mounted<F> {
         ensures same { result ≡ false → self.new ≡ self.old }
     {
         self.client.learn(alloc, file).is_ok()
+    }
+
+    /// Whether so much came of a file that is being fetched that some should be lent.
+    pub fn may_lend(&self) -> bool {
+        self.client.may_lend()
+    }
+
+    /// What came of a file that is being fetched is lent, so that it is hashed where nobody waits for the client, and
+    /// is given back with the next call: a hint, on which nothing depends that is told.
+    pub fn lend(&mut self, alloc: Global, back: Option<Ahead>) -> Option<Ahead>
+        ensures { self.new ≡ self.old }
+    {
+        self.client.lend(alloc, back)
     }
 
     /// Whether an open of this place, whose file isn't open, asks nobody at this reading: its id is known, and the

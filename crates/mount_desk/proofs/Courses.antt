@@ -5,6 +5,7 @@ use Rattle.record_ends.specs.declared.end.End.{End}
 use Rattle.lbfs_client.specs.Mounting.{Mount, Continues, joined_step}
 use Rattle.lbfs_client.specs.declared.line.MountLine.{MountLine}
 use Rattle.mount_desk.specs.Course.{Begun, Course}
+use Rattle.mount_desk.specs.declared.desk.Desk.{Desk}
 use Rattle.mount_desk.specs.Turns.{Hears, Loses, RunsHinted, Turns, counted}
 
 -- what is known of a client, unless memory ran out
@@ -18,6 +19,11 @@ same_course drift most most' listed listed' m m' a b c h = subst (λ (k : ℕ). 
 
 pub known_same : (starved starved' : Bool) (drift most most' listed listed' : ℕ) (m m' : Mount) → starved' ≡ starved → most' ≡ most → listed' ≡ listed → m' ≡ m → ∥ (starved ≡ false → Course drift most listed m) ∥₁ → ∥ (starved' ≡ false → Course drift most' listed' m') ∥₁
 known_same starved starved' drift most most' listed listed' m m' s a b c h = ∥∥₁_map h (λ (k : Known starved drift most listed m) fed. same_course drift most most' listed listed' m m' a b c (k (sym s ∙ fed)))
+
+module _ {F L : Type 0} where
+  -- of a desk that stays
+  pub known_still : (d e : Desk F L) (drift : ℕ) → e ≡ d → ∥ (d.starved ≡ false → Course drift d.most d.listed d.mounted) ∥₁ → ∥ (e.starved ≡ false → Course drift e.most e.listed e.mounted) ∥₁
+  known_still d e drift same h = subst (λ (x : Desk F L). ∥ (x.starved ≡ false → Course drift x.most x.listed x.mounted) ∥₁) (sym same) h
 
 -- ---- its beginning, and its turns
 

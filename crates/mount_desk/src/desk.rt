@@ -11,6 +11,7 @@ use crate::answer_line::AnswerLine;
 use crate::giving::{add, close, close_unless, give_farewell, give_waits, may_wait};
 use command_text::command::Command;
 use cut_bytes::CutBytes;
+use cut_bytes::ahead::Ahead;
 use lb_base::items::{Bytes, Items};
 use lbfs_client::line::MountLine;
 use lbfs_client::mounted::Mounted;
@@ -310,6 +311,19 @@ impl<F: Files + Drop, L: Link + Drop> Desk<F, L> {
             Some(bytes) => bytes.shared().share().ok(),
             None => None,
         }
+    }
+
+    /// Whether so much came of a file that is being fetched that some should be lent.
+    pub(crate) fn may_lend(&self) -> bool {
+        self.mounted.may_lend()
+    }
+
+    /// What came of a file that is being fetched is lent to be hashed, where it is much. It is given back with the
+    /// next call.
+    pub(crate) fn lend(&mut self, alloc: Global, back: Option<Ahead>) -> Option<Ahead>
+        ensures { self.new ≡ self.old }
+    {
+        self.mounted.lend(alloc, back)
     }
 
     /// A put that waits goes on, with what was found of its bytes ahead, if anything was.

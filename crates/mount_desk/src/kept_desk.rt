@@ -10,6 +10,7 @@ use crate::answer_line::AnswerLine;
 use crate::desk::{Desk, Left};
 use crate::turns::Turns;
 use cut_bytes::CutBytes;
+use cut_bytes::ahead::Ahead;
 use lbfs_client::line::MountLine;
 use lbfs_client::mounted::Mounted;
 use links::files::Files;
@@ -89,6 +90,10 @@ impl<F: Files + Drop, L: Link + Drop> Turns for KeptDesk<F, L> {
         self.desk.has_news()
     }
 
+    fn wakes(&self) -> bool {
+        self.desk.has_news() || self.desk.may_lend()
+    }
+
     fn take_line(&mut self) -> Result<AnswerLine, AllocError> {
         self.desk.take_line()
     }
@@ -99,6 +104,10 @@ impl<F: Files + Drop, L: Link + Drop> Turns for KeptDesk<F, L> {
 
     fn read_bytes(&self) -> Option<SharedBytes> {
         self.desk.read_bytes()
+    }
+
+    fn lend(&mut self, alloc: Global, back: Option<Ahead>) -> Option<Ahead> {
+        self.desk.lend(alloc, back)
     }
 
     fn go_on(&mut self, alloc: Global, found: Option<CutBytes>, now: u64) {

@@ -63,10 +63,10 @@ impl<D: Turns + Drop> Shared<D> {
     {
         let mut desk = self.desk.lock(rt);
         let goes_on = desk.hear(self.alloc, connection, bytes, more, now);
-        let has_news = desk.has_news();
+        let wakes = desk.wakes();
         drop(desk);
         // Whoever waits for a line isn't woken by each of the records that come before it.
-        if has_news {
+        if wakes {
             self.news.notify_all();
         }
         goes_on
@@ -131,17 +131,26 @@ impl<'e, D: Turns + Drop> ScriptTurns<'e, D> {
             .go_on(self.shared.alloc, found, now);
     }
 
-    /// A turn that takes the line of what ended, once there is one. The error says that memory ran
-    /// out.
+    /// A turn that takes the line of what ended, once there is one. What comes of a file until then is lent and
+    /// hashed meanwhile. The error says that memory ran out.
     pub fn await_line<W: Wait>(&self, rt: &W) -> Result<AnswerLine, AllocError>
         ensures { (a : D.Desk) × (b : D.Desk) × D.takes a result b }
     {
-        let mut desk = self.shared.desk.lock(rt);
+        let mut hashed = None;
         for _turn in rt.forever() {
+            let mut desk = self.shared.desk.lock(rt);
             if desk.has_news() {
                 return desk.take_line();
             }
-            desk = self.shared.news.wait(rt, desk);
+            let lent = desk.lend(self.shared.alloc, hashed.take());
+            match lent {
+                Some(mut lent) => {
+                    drop(desk);
+                    lent.hash();
+                    hashed = Some(lent);
+                }
+                None => drop(self.shared.news.wait(rt, desk)),
+            }
         }
         unreachable!()
     }

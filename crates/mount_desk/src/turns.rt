@@ -2,7 +2,7 @@
 //! and the connections are written for any such thing, and so none of them is checked with all that a
 //! client consists of. What each call makes of its desk is a relation of the thing's own, which a turn owes by these.
 
-ghost use Rattle.std.specs.Prelude.{ℕ, List, Bool, Result};
+ghost use Rattle.std.specs.Prelude.{◌≡◌, ℕ, List, Bool, Result};
 ghost use Rattle.std.specs.declared.alloc.AllocError.{AllocError};
 ghost use Rattle.record_ends.specs.declared.end.End.{End};
 ghost use Rattle.lbfs_client.specs.declared.line.MountLine.{MountLine};
@@ -12,6 +12,7 @@ ghost use Rattle.mount_desk.specs.declared.desk.Left.{Left};
 use crate::answer_line::AnswerLine;
 use crate::desk::Left;
 use cut_bytes::CutBytes;
+use cut_bytes::ahead::Ahead;
 use lbfs_client::line::MountLine;
 use record_ends::end::End;
 use shared_bytes::SharedBytes;
@@ -52,6 +53,10 @@ pub trait Turns {
     /// Whether there is something for whoever waits for a line.
     fn has_news(&self) -> bool;
 
+    /// Whether whoever waits for a line has something to do: there is news, or so much came of a file that is being
+    /// fetched that some should be lent.
+    fn wakes(&self) -> bool;
+
     /// The line of what ended. The error says that memory ran out.
     fn take_line(&mut self) -> Result<AnswerLine, AllocError>
         ensures { takes (desk_of self.old) result (desk_of self.new) };
@@ -62,6 +67,11 @@ pub trait Turns {
 
     /// An owner of the bytes with which a put waits to go on, if one does.
     fn read_bytes(&self) -> Option<SharedBytes>;
+
+    /// What came of a file that is being fetched is lent to be hashed between two turns, where it is much. It is
+    /// given back with the next call.
+    fn lend(&mut self, alloc: Global, back: Option<Ahead>) -> Option<Ahead>
+        ensures { desk_of self.new ≡ desk_of self.old };
 
     /// A put that waits goes on, with what was found of its bytes ahead, if anything was.
     fn go_on(&mut self, alloc: Global, found: Option<CutBytes>, now: u64)

@@ -21,6 +21,7 @@ use client_state::state::ClientState;
 use client_state::step::{ClientStep, Ended, Outcome};
 use command_text::command::Command;
 use cut_bytes::CutBytes;
+use cut_bytes::ahead::Ahead;
 use file_open::caching;
 use lb_base::items::Bytes;
 use send_list::SendList;
@@ -145,6 +146,19 @@ impl Client {
                 missed(alloc)
             }
         }
+    }
+
+    /// Whether so much came of a file that is being fetched that some should be lent.
+    pub fn may_lend(&self) -> bool {
+        self.state.may_lend()
+    }
+
+    /// What came of a file that is being fetched is lent to be hashed while more comes, and is given back with the
+    /// next call: a hint, on which nothing depends that is told.
+    pub fn lend(&mut self, alloc: Global, back: Option<Ahead>) -> Option<Ahead>
+        ensures { self.new ≡ self.old }
+    {
+        self.state.lend(alloc, back)
     }
 
     /// The content that is kept of a file is dropped, if one is. It takes no memory.

@@ -21,7 +21,7 @@ use Rattle.file_open.proofs.Slots.{slots_small}
 use Rattle.file_open.proofs.opening.opened_with.Goals as goal
 
 pub keep_open-requires-clause-small : goal.keep_open-requires-clause-small
-keep_open-requires-clause-small c = subst (λ (bytes : List ℕ). length bytes ≤ file_limit) (sym (c.hashed-content.ensures ∙ (c.whole.ensures ∙ (c.in_ok-all.ensures ∙ ap slots_bytes c.replace-slots.ensures.value)))) (slots_small c.args.fetch.now c.requires.within)
+keep_open-requires-clause-small c = subst (λ (bytes : List ℕ). length bytes ≤ file_limit) (sym (c.in_ok-content.ensures ∙ ap slots_bytes c.replace-slots.ensures.value)) (slots_small c.args.fetch.now c.requires.within)
 
 pub forget-requires : goal.forget-requires
 forget-requires c = subst IsHeld (sym c.enter_fetched-missed.ensures.rest) (held_index c.keep_open.new.state c.enter_fetched-missed.new.state.index c.keep_open.ensures.held)
@@ -37,7 +37,7 @@ returns-clause-ok c =
     let index = c.enter_fetched-missed.new.state.index in
     let missed = c.enter_fetched-missed.result in
     let opened : List ℕ → State = λ bytes. record (state_of s) { opened = with_local s.opened.entries file (record { version = f.version; bytes = bytes }); cache = with_content s.cache file f.version bytes } in
-    let content : c.hashed-content.result ≡ slots_bytes f.slots = c.hashed-content.ensures ∙ (c.whole.ensures ∙ (c.in_ok-all.ensures ∙ ap slots_bytes c.replace-slots.ensures.value)) in
+    let content : c.in_ok-content.content ≡ slots_bytes f.slots = c.in_ok-content.ensures ∙ ap slots_bytes c.replace-slots.ensures.value in
     let state : state_of c.keep_open.new.state ≡ opened (slots_bytes f.slots) = c.in_ok-step.ensures.rest ∙ ap opened content in
     let rest : state_of c.forget.new.self ≡ forgets (record (opened (slots_bytes f.slots)) { index = index }) calls xid =
     c.forget.ensures.rest
