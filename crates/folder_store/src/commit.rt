@@ -8,7 +8,6 @@ use log_store::folder::Fault;
 use log_store::syncing::{Flush, Syncing};
 use std::alloc::{AllocError, Global};
 use std::fs::File;
-use std::io;
 use std::io::Error;
 use std::sync::atomic::{AtomicBool, AtomicU64, Ordering};
 use std::sync::{Arc, Mutex, Wait};
@@ -25,19 +24,15 @@ pub struct LogFlush {
     why: Option<Error>,
 }
 
-/// All that a log was given so far is on the disk.
-fn sync_log(log: &Option<File>) -> io::Result<()> {
-    match log {
-        Some(log) => log.sync_data(),
-        None => Ok(()),
-    }
-}
-
 impl Flush for LogFlush {
     ghost firm = { λ s. s.flushed };
 
     fn flush(&mut self, given: u64) -> Result<(), Fault> {
-        match sync_log(&self.log) {
+        let done = match &self.log {
+            Some(log) => log.sync_data(),
+            None => Ok(()),
+        };
+        match done {
             Ok(()) => {
                 self.flushed = self.flushed.max(given);
                 Ok(())

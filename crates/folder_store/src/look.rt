@@ -114,10 +114,13 @@ fn own_bytes<R: Files<File = File>>(
     alloc: Global,
     paths: &Paths,
 ) -> io::Result<Option<Vec<u8>>> {
-    let read = read_file(rt, alloc, paths.own.as_str(), READ_MOST)?;
-    match (read, &paths.made) {
-        (Some(bytes), Some(made)) => Ok(Some(unless_made(rt, bytes, made.as_str())?)),
-        (read, _) => Ok(read),
+    let own = paths.own.as_str();
+    let Some(made) = &paths.made else {
+        return read_file(rt, alloc, own, READ_MOST);
+    };
+    match read_file(rt, alloc, own, READ_MOST)? {
+        Some(bytes) => Ok(Some(unless_made(rt, bytes, made.as_str())?)),
+        None => Ok(None),
     }
 }
 
@@ -165,12 +168,6 @@ fn reading_of<R: Files<File = File>>(
     }
 }
 
-/// Adds a line of what was found.
-fn add_finding(found: &mut CheckedStore, line: String) -> Result<(), AllocError> {
-    found.findings.push(line)?;
-    Ok(())
-}
-
 /// Adds a record, or a line that says why there is none.
 fn add<R: Files<File = File>>(
     rt: &R,
@@ -213,7 +210,7 @@ fn lines_of<R: Files<File = File>>(
     rt: &R,
     alloc: Global,
     place: &str,
-    found: &mut CheckedStore,
+    findings: &mut Vec<String>,
 ) -> Result<Vec<Line>, AllocError> {
     let mut lines = Vec::new(alloc);
     for (name, is_log) in [("change", false), ("log", true)] {
@@ -231,8 +228,7 @@ fn lines_of<R: Files<File = File>>(
             }
             Err(why) if why.kind() == ErrorKind::OutOfMemory => return Err(AllocError),
             Err(why) => {
-                let line = format!(in alloc; "{name}: {why}")?;
-                found.findings.push(line)?;
+                findings.push(format!(in alloc; "{name}: {why}")?)?;
             }
         }
     }
@@ -274,20 +270,16 @@ fn add_stranger<R: Files<File = File> + AllocGlobal + Clone + Drop>(
     rt: &R,
     alloc: Global,
     place: &str,
-    found: &mut CheckedStore,
+    findings: &mut Vec<String>,
 ) -> io::Result<()> {
-    match stranger_in(rt, alloc, place)? {
+    let line = match stranger_in(rt, alloc, place)? {
         Some(Stranger::File(name)) => {
-            let name = name.as_str();
-            let line = format!(in alloc; "{name}: no store's file, though it has the name of one")?;
-            add_finding(found, line)?;
+            format!(in alloc; "{name}: no store's file, though it has the name of one")?
         }
-        Some(Stranger::Folder) => {
-            let line = format!(in alloc; "{place}: it isn't empty, and is no store")?;
-            add_finding(found, line)?;
-        }
-        None => {}
-    }
+        Some(Stranger::Folder) => format!(in alloc; "{place}: it isn't empty, and is no store")?,
+        None => return Ok(()),
+    };
+    findings.push(line)?;
     Ok(())
 }
 
@@ -296,12 +288,12 @@ fn open_for_look<R: Files<File = File> + AllocGlobal + Clone + Drop>(
     rt: &R,
     alloc: Global,
     place: &str,
-    found: &mut CheckedStore,
+    findings: &mut Vec<String>,
 ) -> io::Result<Looked> {
     let lock = lock(rt, place)?;
-    add_stranger(rt, alloc, place, found)?;
+    add_stranger(rt, alloc, place, findings)?;
     let there = files_there(rt, alloc, place)?;
-    let lines = lines_of(rt, alloc, place, found)?;
+    let lines = lines_of(rt, alloc, place, findings)?;
     let records = records_named(alloc, there.as_slice(), lines.as_slice())?;
     Ok(Looked {
         place: String::from_str(alloc, place)?,
@@ -320,11 +312,8 @@ pub fn look<R: Files<File = File> + AllocGlobal + Eprint + Clone + Drop>(
 ) -> Result<CheckedStore, StoreError>
     ensures { IfOk result (λ found. IsFound found) }
 {
-    let mut found = CheckedStore {
-        records: Vec::new(alloc),
-        findings: Vec::new(alloc),
-    };
-    let looked = match open_for_look(rt, alloc, place, &mut found) {
+    let mut findings = Vec::new(alloc);
+    let looked = match open_for_look(rt, alloc, place, &mut findings) {
         Ok(looked) => looked,
         Err(why) if why.kind() == ErrorKind::OutOfMemory => return Err(StoreError::Memory),
         Err(why) if why.kind() == ErrorKind::WouldBlock => {
@@ -336,10 +325,6 @@ pub fn look<R: Files<File = File> + AllocGlobal + Eprint + Clone + Drop>(
             return Err(StoreError::Failed);
         }
     };
-    let CheckedStore {
-        records: _none,
-        findings,
-    } = found;
     let mut found = CheckedStore {
         records: Vec::new(alloc),
         findings,

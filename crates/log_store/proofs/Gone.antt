@@ -3,9 +3,11 @@ use Rattle.std.proofs.Common.{◌≡◌, inl, inr, ⊎_elim, ℕ, ◌≤◌, ◌
 use Rattle.lb_base.specs.Causes.{Rose}
 use Rattle.log_store.specs.Names.{same}
 use Rattle.log_store.specs.Disk.{Disk, Removed}
-use Rattle.log_store.specs.Making.{IsGone, AreGone, StaysGone, GoneAfter}
+use Rattle.log_store.specs.Making.{IsGone, AreGone, StaysGone, GoneAfter, IfBefore}
 use Rattle.log_store.specs.declared.edit.Edit.{Edit}
 use Rattle.log_store.specs.declared.folder.Fault.{Fault}
+use Rattle.log_store.specs.declared.staging.Undone.{Undone}
+use Rattle.log_store.specs.declared.staging.Undone.TheVariants as undone
 use Rattle.log_store.specs.declared.which.Which.{Which}
 use Rattle.log_store.specs.declared.which.FileName.{FileName}
 use Rattle.log_store.specs.declared.which.FileName.TheVariants.{Record, New}
@@ -56,3 +58,8 @@ gone_front xs d le mid new f g h fg gh first stays rest =
 
 pub gone_after : (edits : List Edit) (d : Disk) (f g h : ℕ) → Rose f g → AreGone edits d g h → GoneAfter edits d f h
 gone_after edits d f g h rose all = (g, rose, all)
+
+pub gone_sooner : (edits : List Edit) (d : Disk) (r : Result (Unit {0}) Undone) (f g h : ℕ) → f ≤ g → IfBefore r (GoneAfter edits d g h) → IfBefore r (GoneAfter edits d f h)
+gone_sooner edits d (Ok u) f g h le after = tt
+gone_sooner edits d (Err undone.Before) f g h le (mid, rose, all) = (mid, rose_more f g mid le rose, all)
+gone_sooner edits d (Err undone.InDoubt) f g h le after = tt

@@ -307,6 +307,12 @@ redo_on records rest old mid new r did more = record {
   done = more.done;
 }
 
+-- lines are their first one and the rest
+pub rest_front : (xs : List Line) (first : Line) → first ≡ get_or xs 0 first → 1 ≤ length xs → (records : Records) (old : Disk) → IsRest xs records old → IsRest (first ∷ take (length xs - 1) (drop 1 xs)) records old
+rest_front [] first is le records old so = absurd (omega arith)
+rest_front (a ∷ rest) first is le records old so =
+    subst (λ (x : Line). IsRest (x ∷ take (length (a ∷ rest) - 1) rest) records old) (sym is) (subst (λ (ys : List Line). IsRest (a ∷ ys) records old) (sym (take_all (length (a ∷ rest) - 1) rest (omega arith))) so)
+
 pub redo_ends : (records : Records) (d : Disk) → IsFirm records d → IsRest [] records d → Redone records d d (Ok tt)
 redo_ends records d f so = record { leaves = nothing (λ c l. Loads l c records); firm = f; entries = refl; done = λ n. so.done n refl }
 

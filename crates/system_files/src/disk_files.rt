@@ -56,16 +56,36 @@ pub fn read_file<R: Files<File = File>>(
     path: &str,
     most: u64,
 ) -> io::Result<Option<Vec<u8>>> {
-    let Some(mut file) = open_regular(rt, path)? else {
-        return Ok(None);
-    };
-    let facts = file.metadata()?;
-    if most < facts.len() {
+    match open_regular(rt, path)? {
+        Some(mut file) => Ok(Some(read_all(&mut file, alloc, most)?)),
+        None => Ok(None),
+    }
+}
+
+/// The bytes of an open file.
+fn read_all(file: &mut File, alloc: Global, most: u64) -> io::Result<Vec<u8>> {
+    let len = file.metadata()?.len();
+    if most < len {
         return Err(Error::from(ErrorKind::FileTooLarge));
     }
-    let mut bytes = Vec::with_capacity(alloc, facts.len() as usize)?;
+    let mut bytes = Vec::with_capacity(alloc, len as usize)?;
     let _count = file.read_to_end(&mut bytes)?;
-    Ok(Some(bytes))
+    Ok(bytes)
+}
+
+/// The bytes of a file are on the disk, if it is there.
+pub fn flush_file<R: Files<File = File>>(rt: &R, path: &str) -> io::Result<()> {
+    match open_regular(rt, path)? {
+        Some(file) => file.sync_data(),
+        None => Ok(()),
+    }
+}
+
+/// A file that is there has so many bytes.
+pub fn set_length<R: Files<File = File>>(rt: &R, path: &str, len: u64) -> io::Result<()> {
+    let mut options = OpenOptions::new();
+    options.write(true);
+    options.open(rt, path)?.set_len(len)
 }
 
 /// Writes a file whole: these bytes, and those behind them. Where it is there it is written in its place,
@@ -76,13 +96,23 @@ pub fn write_file<R: Files<File = File>>(
     front: &[u8],
     body: &[u8],
 ) -> io::Result<File> {
+    let mut file = open_to_write(rt, path)?;
+    write_bytes(&mut file, front, body)?;
+    Ok(file)
+}
+
+/// Opens a file to be written in its place; it is made where it isn't there.
+pub fn open_to_write<R: Files<File = File>>(rt: &R, path: &str) -> io::Result<File> {
     let mut options = OpenOptions::new();
     options.write(true).create(true);
-    let mut file = options.open(rt, path)?;
+    options.open(rt, path)
+}
+
+/// An open file has these bytes, and those behind them.
+fn write_bytes(file: &mut File, front: &[u8], body: &[u8]) -> io::Result<()> {
     file.write_all(front)?;
     file.write_all(body)?;
-    file.set_len((front.len() as u64).saturating_add(body.len() as u64))?;
-    Ok(file)
+    file.set_len((front.len() as u64).saturating_add(body.len() as u64))
 }
 
 /// How many bytes of room a file at a path has; none where it isn't there.

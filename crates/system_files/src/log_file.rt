@@ -2,14 +2,14 @@
 //! writes its bytes alone. Its frames stand one behind the other from the file's beginning; what stands behind
 //! the last is zeros, or frames of an earlier round, whose numbers are lower.
 
-use crate::disk_files::is_full;
+use crate::disk_files::{is_full, open_to_write};
 use crate::needs::{Need, Needs};
 use log_store::edit::Edit;
 use log_store::entry::put_entry;
 use log_store::frame::{FRONT, put_frame};
 use log_store::which::Which;
 use std::alloc::{AllocError, Global};
-use std::fs::{File, OpenOptions};
+use std::fs::File;
 use std::io;
 use std::io::{Error, ErrorKind, Seek, SeekFrom, Write};
 use std::os::unix::fs::FileExt;
@@ -86,19 +86,22 @@ fn fill(file: &mut File) -> io::Result<()> {
     Ok(())
 }
 
+/// Empties the file, and gives it its room; both are on the disk then.
+fn empty(file: &mut File) -> io::Result<()> {
+    // The first frame goes first: what is left without it is no log, however much of it goes.
+    file.write_all_at(&[0; FRONT], 0)?;
+    file.sync_data()?;
+    file.set_len(ROOM)?;
+    fill(file)?;
+    file.sync_all()
+}
+
 impl LogFile {
     /// An empty log in the place of any that was there. Once this is done the file is on the disk; its name
     /// may not be.
     pub fn make<R: Files<File = File>>(rt: &R, alloc: Global, path: &str) -> io::Result<LogFile> {
-        let mut options = OpenOptions::new();
-        options.write(true).create(true);
-        let mut file = options.open(rt, path)?;
-        // The first frame goes first: what is left without it is no log, however much of it goes.
-        file.write_all_at(&[0; FRONT], 0)?;
-        file.sync_data()?;
-        file.set_len(ROOM)?;
-        fill(&mut file)?;
-        file.sync_all()?;
+        let mut file = open_to_write(rt, path)?;
+        empty(&mut file)?;
         Ok(LogFile {
             file,
             end: 0,

@@ -7,7 +7,7 @@ ghost use Rattle.lb_base.specs.Causes.{Rose};
 ghost use Rattle.store.specs.declared.store.StoreError.TheVariants as errors;
 ghost use Rattle.system_folder.specs.Untold.{untold};
 
-use crate::open_folder::OpenFolder;
+use crate::open_folder::{OpenFolder, lock_folder};
 use crate::strangers::Stranger;
 use lb_base::faults::one_more;
 use log_store::edit::{Edit, Line};
@@ -39,21 +39,37 @@ impl<R: Drop> Drop for DiskFolder<R> {
 
 /// Tells why a folder isn't opened, unless memory runs out.
 fn tell_unopened<R: Eprint>(rt: &R, place: &str, why: TryLockError) -> StoreError {
-    match why {
-        TryLockError::WouldBlock => {
-            let _told = eprintln!(rt; "lbfs: {place}: locked by another server");
+    let TryLockError::Error(why) = why else {
+        let _told = eprintln!(rt; "lbfs: {place}: locked by another server");
+        return StoreError::Failed;
+    };
+    if why.kind() == ErrorKind::OutOfMemory {
+        return StoreError::Memory;
+    }
+    let advice = if why.kind() == ErrorKind::NotFound {
+        " (make it first)"
+    } else {
+        ""
+    };
+    let _told = eprintln!(rt; "lbfs: {place}: {why}{advice}");
+    StoreError::Failed
+}
+
+/// Tells what is no store's.
+fn tell_stranger<R: Eprint>(rt: &R, place: &str, stranger: &Stranger) {
+    match stranger {
+        Stranger::File(name) => {
+            let name = name.as_str();
+            let _told = eprintln!(rt;
+                "lbfs: {place}/{name}: no store's file, though it has the name of one"
+            );
         }
-        TryLockError::Error(why) if why.kind() == ErrorKind::OutOfMemory => {
-            return StoreError::Memory;
-        }
-        TryLockError::Error(why) if why.kind() == ErrorKind::NotFound => {
-            let _told = eprintln!(rt; "lbfs: {place}: {why} (make it first)");
-        }
-        TryLockError::Error(why) => {
-            let _told = eprintln!(rt; "lbfs: {place}: {why}");
+        Stranger::Folder => {
+            let _told = eprintln!(rt;
+                "lbfs: {place}: it isn't empty, and is no store (take an empty folder)"
+            );
         }
     }
-    StoreError::Failed
 }
 
 impl<R: Files<File = File> + AllocGlobal + Eprint + Clone + Drop> DiskFolder<R> {
@@ -66,48 +82,35 @@ impl<R: Files<File = File> + AllocGlobal + Eprint + Clone + Drop> DiskFolder<R> 
         place: &str,
         unsynced: bool,
     ) -> Result<DiskFolder<R>, StoreError> {
-        let teller = rt.clone()?;
-        match OpenFolder::open(rt, alloc, place, unsynced) {
-            Ok(open) => {
-                drop(teller);
-                let mut folder = DiskFolder { open, faults: 0 };
-                folder.refuse_strangers(place)?;
-                folder.open.find_reserve();
-                let done = folder.open.finish_list();
-                folder.counted_apart(done)?;
-                Ok(folder)
-            }
-            Err(why) => {
-                let error = tell_unopened(&teller, place, why);
-                drop(teller);
-                Err(error)
-            }
-        }
+        let lock = match lock_folder(&rt, place) {
+            Ok(lock) => lock,
+            Err(why) => return Err(tell_unopened(&rt, place, why)),
+        };
+        let open = OpenFolder::new(rt, alloc, place, lock, unsynced)?;
+        let mut folder = DiskFolder { open, faults: 0 };
+        folder.begin(place)?;
+        Ok(folder)
+    }
+
+    /// Looks for what is no store's, and carries out a change of an earlier form.
+    fn begin(&mut self, place: &str) -> Result<(), StoreError> {
+        self.refuse_strangers(place)?;
+        self.open.find_reserve();
+        let done = self.open.finish_list();
+        self.counted_apart(done)
     }
 
     /// Refuses a folder that has what is no store's, which is told.
     fn refuse_strangers(&mut self, place: &str) -> Result<(), StoreError> {
         let found = self.open.stranger();
-        let Some(stranger) = self.counted_apart(found)? else {
-            return Ok(());
-        };
-        let rt = self.open.rt();
-        match &stranger {
-            Stranger::File(name) => {
-                let name = name.as_str();
-                let _told = eprintln!(rt;
-                    "lbfs: {place}/{name}: no store's file, though it has the name of one"
-                );
+        match self.counted_apart(found)? {
+            Some(stranger) => {
+                tell_stranger(self.open.rt(), place, &stranger);
+                self.faults = one_more(self.faults);
+                Err(StoreError::Failed)
             }
-            Stranger::Folder => {
-                let _told = eprintln!(rt;
-                    "lbfs: {place}: it isn't empty, and is no store (take an empty folder)"
-                );
-            }
+            None => Ok(()),
         }
-        drop(stranger);
-        self.faults = one_more(self.faults);
-        Err(StoreError::Failed)
     }
 
     /// Tells why something failed with the file that was named last, and counts it.

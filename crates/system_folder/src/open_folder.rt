@@ -1,19 +1,19 @@
 //! A folder of the host that is open, by the system's calls: what `disk_folder` counts the faults of.
 
-use crate::redo::carry_out;
+use crate::redo::{carry_out, lines_in};
 use crate::strangers::{Stranger, stranger_in};
 use log_store::edit::{Edit, Line, Parts, What};
 use log_store::entry::add_lines;
 use log_store::frame::{FRONT, frame_at, number_at};
 use log_store::which::{FileName, Which, is_same};
 use std::alloc::{AllocError, Global};
-use std::fs::{File, OpenOptions, TryLockError};
+use std::fs::{File, TryLockError};
 use std::io::{Error, ErrorKind, Write};
 use std::rt::Files;
 use std::{fs, io, mem};
 use system_files::disk_files::{
-    READ_MOST, has_room, is_full, is_missing, more_room, open_regular, read_file, unless_gone,
-    write_file,
+    READ_MOST, flush_file, has_room, is_full, is_missing, more_room, read_file, set_length,
+    unless_gone, write_file,
 };
 use system_files::log_file::LogFile;
 use system_files::made::{MADE, are_made, content_id, unless_made};
@@ -98,7 +98,10 @@ impl<R: Drop> Drop for OpenFolder<R> {
 }
 
 /// Opens a folder, and locks it.
-fn lock_folder<R: Files<File = File>>(rt: &R, place: &str) -> Result<File, TryLockError> {
+pub(crate) fn lock_folder<R: Files<File = File>>(
+    rt: &R,
+    place: &str,
+) -> Result<File, TryLockError> {
     let file = match fs::open(rt, place) {
         Ok(file) => file,
         Err(why) => return Err(TryLockError::Error(why)),
@@ -188,38 +191,30 @@ fn lost_before() -> Error {
 }
 
 impl<R: Files<File = File> + AllocGlobal + Clone + Drop> OpenFolder<R> {
-    /// The folder at a place, locked.
-    pub(crate) fn open(
+    /// The folder at a place, by its lock. The one error is running out of memory.
+    pub(crate) fn new(
         rt: R,
         alloc: Global,
         place: &str,
+        lock: File,
         unsynced: bool,
-    ) -> Result<OpenFolder<R>, TryLockError> {
-        let paths = match Paths::new(alloc, place) {
-            Ok(paths) => paths,
-            Err(want) => return Err(TryLockError::Error(Error::from(want))),
-        };
-        match lock_folder(&rt, place) {
-            Ok(lock) => {
-                Ok(OpenFolder {
-                    rt,
-                    alloc,
-                    lock,
-                    paths,
-                    log: None,
-                    written: None,
-                    loose: Vec::new(alloc),
-                    is_left: true,
-                    reserve: false,
-                    kept: BARE_RESERVE,
-                    wants_more: false,
-                    may_grow: true,
-                    unsynced,
-                    lost: false,
-                })
-            }
-            Err(why) => Err(why),
-        }
+    ) -> Result<OpenFolder<R>, AllocError> {
+        Ok(OpenFolder {
+            rt,
+            alloc,
+            lock,
+            paths: Paths::new(alloc, place)?,
+            log: None,
+            written: None,
+            loose: Vec::new(alloc),
+            is_left: true,
+            reserve: false,
+            kept: BARE_RESERVE,
+            wants_more: false,
+            may_grow: true,
+            unsynced,
+            lost: false,
+        })
     }
 
     /// What in the folder is no store's, if anything is.
@@ -267,13 +262,10 @@ impl<R: Files<File = File> + AllocGlobal + Clone + Drop> OpenFolder<R> {
     /// The reserve has no more than a large one: a run that was killed as it tried whether there is room left what
     /// it tried.
     fn shorten_reserve(&self) -> io::Result<()> {
-        let mut options = OpenOptions::new();
-        options.write(true);
-        let file = options.open(&self.rt, self.paths.at())?;
-        if LARGE_RESERVE.bytes < file.metadata()?.len() {
-            file.set_len(LARGE_RESERVE.bytes)?;
+        if fs::metadata(&self.rt, self.paths.at())?.len() <= LARGE_RESERVE.bytes {
+            return Ok(());
         }
-        Ok(())
+        set_length(&self.rt, self.paths.at(), LARGE_RESERVE.bytes)
     }
 
     /// What carrying out a record's bytes needs at most.
@@ -321,39 +313,39 @@ impl<R: Files<File = File> + AllocGlobal + Clone + Drop> OpenFolder<R> {
     pub(crate) fn finish_list(&mut self) -> io::Result<()> {
         self.paths.name_list()?;
         unless_gone(fs::remove_file(&self.rt, self.paths.beside()))?;
-        let Some(list) = read_file(&self.rt, self.alloc, self.paths.at(), READ_MOST)? else {
-            return Ok(());
-        };
-        self.flush_list()?;
-        carry_out(&self.rt, &mut self.paths, list.as_slice())?;
+        match read_file(&self.rt, self.alloc, self.paths.at(), READ_MOST)? {
+            Some(list) => {
+                let lines = lines_in(self.alloc, list.as_slice())?;
+                self.redo_list(lines.as_slice())
+            }
+            None => Ok(()),
+        }
+    }
+
+    /// A list of a change is carried out, and goes.
+    fn redo_list(&mut self, lines: &[Line]) -> io::Result<()> {
+        if !self.unsynced {
+            flush_file(&self.rt, self.paths.at())?;
+        }
+        self.flush_all()?;
+        carry_out(&self.rt, &mut self.paths, lines)?;
         self.flush_folder()?;
         self.paths.name_list()?;
         unless_gone(fs::remove_file(&self.rt, self.paths.at()))?;
         self.flush_folder()
     }
 
-    /// The list of a change, and all files that are there, are on the disk.
-    fn flush_list(&mut self) -> io::Result<()> {
-        if self.unsynced {
-            return Ok(());
-        }
-        if let Some(list) = open_regular(&self.rt, self.paths.at())? {
-            list.sync_data()?;
-        }
-        self.flush_all()
-    }
-
     /// The bytes of a file, if it is there.
     pub(crate) fn read(&mut self, alloc: Global, name: FileName) -> io::Result<Option<Vec<u8>>> {
         self.paths.name_file(name)?;
-        let read = read_file(&self.rt, alloc, self.paths.at(), READ_MOST)?;
-        match (read, content_id(name)) {
-            (Some(bytes), Some(id)) => {
-                self.paths.name_made(id)?;
-                Ok(Some(unless_made(&self.rt, bytes, self.paths.at())?))
-            }
-            (read, _) => Ok(read),
-        }
+        let Some(bytes) = read_file(&self.rt, alloc, self.paths.at(), READ_MOST)? else {
+            return Ok(None);
+        };
+        let Some(id) = content_id(name) else {
+            return Ok(Some(bytes));
+        };
+        self.paths.name_made(id)?;
+        Ok(Some(unless_made(&self.rt, bytes, self.paths.at())?))
     }
 
     /// The files that are there, by their records.
@@ -515,9 +507,7 @@ impl<R: Files<File = File> + AllocGlobal + Clone + Drop> OpenFolder<R> {
         };
         for name in &names {
             self.paths.name_file(*name)?;
-            if let Some(file) = open_regular(&self.rt, self.paths.at())? {
-                file.sync_data()?;
-            }
+            flush_file(&self.rt, self.paths.at())?;
         }
         self.is_left = false;
         Ok(())
@@ -608,11 +598,7 @@ impl<R: Files<File = File> + AllocGlobal + Clone + Drop> OpenFolder<R> {
 
     /// A log that an earlier run left is on the disk, with its name: the run may have been killed before it was.
     fn flush_left_log(&mut self) -> io::Result<()> {
-        match fs::open(&self.rt, self.paths.at()) {
-            Ok(log) => log.sync_data()?,
-            Err(error) if error.kind() == ErrorKind::NotFound => {}
-            Err(error) => return Err(error),
-        }
+        flush_file(&self.rt, self.paths.at())?;
         self.lock.sync_all()
     }
 
@@ -692,10 +678,7 @@ impl<R: Files<File = File> + AllocGlobal + Clone + Drop> OpenFolder<R> {
         }
         // What was only tried goes again.
         self.paths.name_reserve()?;
-        let mut options = OpenOptions::new();
-        options.write(true);
-        let file = options.open(&self.rt, self.paths.at())?;
-        file.set_len(self.kept.bytes)
+        set_length(&self.rt, self.paths.at(), self.kept.bytes)
     }
 
     /// Makes the empty files that aren't there, as far as there is room.

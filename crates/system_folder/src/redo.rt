@@ -25,131 +25,70 @@ fn no_line() -> io::Error {
     io::Error::from(ErrorKind::InvalidData)
 }
 
-/// Puts the new file of a record in its place.
-fn put_in_place<R: Files>(rt: &R, paths: &mut Paths, which: Which) -> io::Result<()> {
-    paths.name(which)?;
-    unless_gone(fs::rename(rt, paths.beside(), paths.at()))
+/// Whether a line ends here.
+fn ends_line(byte: &u8) -> bool {
+    *byte == b'\n'
 }
 
-/// Removes the file of a record.
-fn remove<R: Files>(rt: &R, paths: &mut Paths, which: Which) -> io::Result<()> {
-    paths.name(which)?;
-    unless_gone(fs::remove_file(rt, paths.at()))
+/// Adds what a line tells of a record.
+fn add(lines: &mut Vec<Line>, which: Which, task: Task) -> io::Result<()> {
+    lines.push(Line { which, task })?;
+    Ok(())
 }
 
-/// Removes the files of a node.
-fn remove_node<R: Files>(rt: &R, paths: &mut Paths, id: u64) -> io::Result<()> {
-    remove(rt, paths, Which::Node(id))?;
-    remove(rt, paths, Which::Content(id))
-}
-
-/// Carries out a line of the list: `+NAME` puts a file in its place, `-ID` removes a node's. A line
-/// that is neither is an error, and nothing is done for it; an empty one, as behind the last line feed,
-/// is passed over.
-fn carry_out_line<R: Files>(rt: &R, paths: &mut Paths, line: &[u8]) -> io::Result<()> {
-    let Some((sign, text)) = line.split_first() else {
-        return Ok(());
-    };
-    match *sign {
-        b'+' => match held_by(text) {
-            Some(which) => put_in_place(rt, paths, which),
-            None => Err(no_line()),
-        },
-        b'-' => match number(text) {
-            Some(id) => remove_node(rt, paths, id),
-            None => Err(no_line()),
-        },
-        _ => Err(no_line()),
-    }
-}
-
-/// Whether a line is one that `carry_out_line` can carry out.
-fn is_line(line: &[u8]) -> bool {
-    match line.split_first() {
-        None => true,
-        Some((b'+', text)) => held_by(text).is_some(),
-        Some((b'-', text)) => number(text).is_some(),
-        Some(_) => false,
-    }
-}
-
-/// Whether all lines of a list are such.
-fn are_lines(list: &[u8]) -> bool {
-    for line in list.split(|byte| *byte == b'\n') {
-        if !is_line(line) {
-            return false;
-        }
-    }
-    true
-}
-
-/// Whether a list shows that it is whole.
-fn is_whole(list: &[u8]) -> bool {
-    list.ends_with(LAST)
-}
-
-/// The record that a file of this name holds; a list has no other names.
-fn record_named(text: &[u8]) -> io::Result<Which> {
-    match held_by(text) {
-        Some(which) => Ok(which),
-        None => Err(no_line()),
-    }
-}
-
-/// Adds what a line of the list tells of records.
+/// Adds what a line of the list tells of records: `+NAME` puts a file in its place, `-ID` removes a node's. A
+/// line that is neither is an error; an empty one, as behind the last line feed, tells nothing.
 fn add_told(lines: &mut Vec<Line>, line: &[u8]) -> io::Result<()> {
-    let Some((sign, text)) = line.split_first() else {
-        return Ok(());
-    };
-    match *sign {
-        b'+' => {
-            let which = record_named(text)?;
-            lines.push(Line {
-                which,
-                task: Task::Moves(0),
-            })?;
-            Ok(())
-        }
-        b'-' => match number(text) {
+    match line.split_first() {
+        Some((b'+', text)) => match held_by(text) {
+            Some(which) => add(lines, which, Task::Moves(0)),
+            None => Err(no_line()),
+        },
+        Some((b'-', text)) => match number(text) {
             Some(id) => {
-                for which in [Which::Node(id), Which::Content(id)] {
-                    lines.push(Line {
-                        which,
-                        task: Task::Goes,
-                    })?;
-                }
-                Ok(())
+                add(lines, Which::Node(id), Task::Goes)?;
+                add(lines, Which::Content(id), Task::Goes)
             }
             None => Err(no_line()),
         },
-        _ => Err(no_line()),
+        Some(_) => Err(no_line()),
+        None => Ok(()),
     }
 }
 
-/// What the list at a path tells of records, as lines of a log would; nothing where it isn't there, or isn't
-/// whole.
-pub fn told_by<R: Files<File = File>>(rt: &R, alloc: Global, path: &str) -> io::Result<Vec<Line>> {
+/// What a list tells of records, as lines of a log would; nothing where it isn't whole.
+pub(crate) fn lines_in(alloc: Global, list: &[u8]) -> io::Result<Vec<Line>> {
     let mut lines = Vec::new(alloc);
-    if let Some(list) = read_file(rt, alloc, path, READ_MOST)? {
-        if is_whole(list.as_slice()) {
-            for line in list.split(|byte| *byte == b'\n') {
-                add_told(&mut lines, line)?;
-            }
+    if list.ends_with(LAST) {
+        for line in list.split(ends_line) {
+            add_told(&mut lines, line)?;
         }
     }
     Ok(lines)
 }
 
-/// Carries out a list that is whole. Of one with a line that no change has nothing is carried out, nor of one
-/// that isn't whole.
-pub(crate) fn carry_out<R: Files>(rt: &R, paths: &mut Paths, list: &[u8]) -> io::Result<()> {
-    if is_whole(list) {
-        if !are_lines(list) {
-            return Err(no_line());
-        }
-        for line in list.split(|byte| *byte == b'\n') {
-            carry_out_line(rt, paths, line)?;
-        }
+/// What the list at a path tells of records; nothing where it isn't there, or isn't whole.
+pub fn told_by<R: Files<File = File>>(rt: &R, alloc: Global, path: &str) -> io::Result<Vec<Line>> {
+    match read_file(rt, alloc, path, READ_MOST)? {
+        Some(list) => lines_in(alloc, list.as_slice()),
+        None => Ok(Vec::new(alloc)),
+    }
+}
+
+/// Carries out what a line tells. A list tells no bytes.
+fn carry_out_line<R: Files>(rt: &R, paths: &mut Paths, line: &Line) -> io::Result<()> {
+    paths.name(line.which)?;
+    match &line.task {
+        Task::Moves(_) => unless_gone(fs::rename(rt, paths.beside(), paths.at())),
+        Task::Goes => unless_gone(fs::remove_file(rt, paths.at())),
+        Task::Put(_) => Err(no_line()),
+    }
+}
+
+/// Carries out what a list tells.
+pub(crate) fn carry_out<R: Files>(rt: &R, paths: &mut Paths, lines: &[Line]) -> io::Result<()> {
+    for line in lines {
+        carry_out_line(rt, paths, line)?;
     }
     Ok(())
 }

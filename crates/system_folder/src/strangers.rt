@@ -156,6 +156,25 @@ impl Seen {
     }
 }
 
+/// Takes a file's name; answers it, if the file is no store's though it has the name of one.
+fn look_at<R: Files<File = File>>(
+    rt: &R,
+    alloc: Global,
+    path: &str,
+    name: &str,
+    seen: &mut Seen,
+) -> io::Result<Option<String>> {
+    let own = own_named(name.as_bytes());
+    seen.add(name.as_bytes(), &own);
+    let Some(own) = own else {
+        return Ok(None);
+    };
+    if is_own(rt, path, own)? {
+        return Ok(None);
+    }
+    Ok(Some(String::from_str(alloc, name)?))
+}
+
 /// The first that is no store's in a folder, if there is any. Nothing is changed.
 pub fn stranger_in<R: Files<File = File> + AllocGlobal + Clone + Drop>(
     rt: &R,
@@ -169,14 +188,9 @@ pub fn stranger_in<R: Files<File = File> + AllocGlobal + Clone + Drop>(
     };
     for entry in fs::read_dir(rt, folder)? {
         let entry = entry?;
-        let name = entry.file_name();
-        let own = own_named(name.as_bytes());
-        seen.add(name.as_bytes(), &own);
-        if let Some(own) = own {
-            let path = format!(in alloc; "{folder}/{name}")?;
-            if !is_own(rt, path.as_str(), own)? {
-                return Ok(Some(Stranger::File(String::from_str(alloc, name)?)));
-            }
+        let path = entry.path();
+        if let Some(name) = look_at(rt, alloc, path.as_str(), entry.file_name(), &mut seen)? {
+            return Ok(Some(Stranger::File(name)));
         }
     }
     if is_foreign(seen) {

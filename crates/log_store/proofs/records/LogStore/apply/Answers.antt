@@ -1,6 +1,13 @@
 use Rattle.std.proofs.Common.{rules}
+use Rattle.log_store.proofs.Hold.{relieved_applied}
 use Rattle.log_store.proofs.Steps.{on_ok, always}
 use Rattle.log_store.proofs.records.LogStore.apply.Goals as goal
 
 pub returns-clause-made : goal.returns-clause-made
 returns-clause-made g c = on_ok c.add_or_again.result (λ u. search rules) (always c.add_or_again.result)
+
+pub returns-clause-does : goal.returns-clause-does
+returns-clause-does g c = λ told records past held sure.
+    let kept = c.in_ok-make_way.ensures.sure sure in
+    let relieved = c.in_ok-make_way.ensures.does told records past sure held in
+    relieved_applied c.args.edits.now records past _ _ _ _ _ _ _ _ relieved (c.add_or_again.ensures.does told records past (relieved.held kept) c.in_ok-make_way.ensures.clear kept)
