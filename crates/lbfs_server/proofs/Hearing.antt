@@ -7,33 +7,22 @@ use Rattle.record_ends.specs.Ends.{Kept, nothing_kept, Gives, Takes}
 use Rattle.record_ends.specs.declared.end.End.{End}
 use Rattle.record_ends.specs.declared.end.End.TheVariants as ends
 use Rattle.record_ends.proofs.lemmas.Coming.{consumes_more}
-use Rattle.turn_post.proofs.lemmas.Fronts.{prefix_self, prefix_trans}
+use Rattle.turn_post.proofs.lemmas.Fronts.{prefix_self}
 use Rattle.turn_post.specs.declared.journaled.Journaled.{Ghosts}
 use Rattle.turn_post.specs.declared.post.Pass.{Pass}
 use Rattle.turn_post.specs.Passes.{seen}
 use Rattle.server_held.specs.declared.held.Went.{Went}
-use Rattle.server_turns.specs.Turned.{InTurn, IsHeard}
-use Rattle.lbfs_server.specs.Heard.{AreHeard, HearsAll, HearsToEnd}
+use Rattle.server_turns.specs.Turned.{IsHeard}
+use Rattle.lbfs_server.specs.Heard.{HearsAll, HearsToEnd}
+use Rattle.lbfs_server.proofs.Ordering.{turned_between, in_order_one}
 use Rattle.lbfs_server.proofs.Giving.{consumes_none, gave_more, gave_no_more}
-
-module _ {V E : Type 0} {g : Ghosts V E} (journal : V → List E) where
-  -- what a turn did it did between any two passes, of which the one had seen no more before, and the other no less behind
-  pub turned_between : (did : V → V → Type 0) (p m n q : Pass V E g) → IsPrefix (seen p) (seen m) → InTurn journal did m n → IsPrefix (seen n) (seen q) → InTurn journal did p q
-  turned_between did p m n q first turn last = record {
-    found = turn.found;
-    left = turn.left;
-    begins = prefix_trans (seen p) (seen m) (journal turn.found) first turn.begins;
-    done = turn.done;
-    ends = prefix_trans (journal turn.left) (seen n) (seen q) turn.ends last;
-  }
 
 module _ {V E : Type 0} {g : Ghosts V E} (journal : V → List E) (hears : V → ℕ → List ℕ → ℕ → Went → V → Type 0) (session : ℕ) where
   pub heard_between : (bytes : List ℕ) (p m n q : Pass V E g) → IsPrefix (seen p) (seen m) → IsHeard journal hears session bytes m n → IsPrefix (seen n) (seen q) → IsHeard journal hears session bytes p q
   heard_between bytes p m n q first heard last = (heard.0, heard.1, turned_between journal (λ found left. hears found session bytes heard.0 heard.1 left) p m n q first heard.2 last)
 
-  heard_more : (records : List (List ℕ)) (bytes : List ℕ) (p m q : Pass V E g) → AreHeard journal hears session records p m → IsHeard journal hears session bytes m q → AreHeard journal hears session (records ++ bytes ∷ []) p q
-  heard_more [] bytes p m q same heard = (q, heard_between bytes p m q q same heard (prefix_self (seen q)), prefix_self (seen q))
-  heard_more (first ∷ later) bytes p m q all heard = (all.0, all.1, heard_more later bytes all.0 m q all.2 heard)
+  heard_wider : (bytes : List ℕ) (p m q : Pass V E g) → IsPrefix (seen p) (seen m) → IsHeard journal hears session bytes m q → IsHeard journal hears session bytes p q
+  heard_wider bytes p m q first heard = heard_between bytes p m q q first heard (prefix_self (seen q))
 
   pub hears_none : (left : Option (List ℕ)) (p : Pass V E g) → HearsAll journal hears session left left nothing_kept p p
   hears_none left p = record { bytes = []; records = []; consumed = consumes_none left; gave = λ more. refl; heard = prefix_self (seen p) }
@@ -45,7 +34,7 @@ module _ {V E : Type 0} {g : Ghosts V E} (journal : V → List E) (hears : V →
     records = all.records ++ r ∷ [];
     consumed = consumes_more before between after all.bytes bytes all.consumed consumed;
     gave = gave_more nothing_kept kept new all.bytes bytes all.records r all.gave gives;
-    heard = heard_more all.records r p m q all.heard heard;
+    heard = in_order_one (IsHeard journal hears session) heard_wider all.records r p m q all.heard heard;
   }
 
   pub hears_to_end : (before between after : Option (List ℕ)) (kept new : Kept) (bytes : List ℕ) (p q : Pass V E g) → HearsAll journal hears session before between kept p q → Consumes between after bytes → Takes kept bytes new

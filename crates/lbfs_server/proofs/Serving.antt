@@ -1,6 +1,6 @@
 -- What a server is opened with, and what its journal tells in the end.
-use Rattle.std.specs.Prelude.{◌≡◌, ℕ, ◌-◌, ◌≤◌, List, ◌∷◌, ◌++◌, map, length, Option, Result, Ok, Err}
-use Rattle.std.proofs.Common.{ap, sym, ◌∙◌, subst, arith}
+use Rattle.std.specs.Prelude.{◌≡◌, ℕ, ◌-◌, ◌≤◌, List, ◌∷◌, ◌++◌, map, length, Option, Result, Ok, Err, OnOk, IfOk, IsErrOf}
+use Rattle.std.proofs.Common.{refl, ap, sym, ◌∙◌, subst, arith}
 use Rattle.std.proofs.lemmas.List.{length-map}
 use mathlib.Core.List.{IsPrefix}
 use Rattle.store.specs.declared.record.Kept.{Kept}
@@ -15,6 +15,9 @@ use Rattle.server_held.specs.declared.entries.Entered.{Entered}
 use Rattle.server_held.specs.declared.entries.Entered.TheVariants.{Opened, Made}
 use Rattle.server_held.specs.Kept.{KeptState, KeepsTree, journal_of}
 use Rattle.turn_post.proofs.lemmas.Fronts.{prefix_trans}
+use Rattle.lbfs_server.specs.declared.listener.Stop.{Stop}
+use Rattle.lbfs_server.specs.declared.serve.ServeError.{ServeError}
+use Rattle.lbfs_server.specs.declared.serve.Served.{Served}
 use Rattle.lbfs_server.specs.Serve.{MayGive, IsTreeOf, IsServerOf, IsBad, IsFront}
 
 pub is_server_of : (told : Option (List Kept)) (term : ℕ) (records : List Kept) (tree : Tree) (server : State) → MayGive told records → load records ≡ Ok tree → server ≡ record (with_term (with_tree tree) term) { index = server.index } → IsServerOf told term server
@@ -82,6 +85,33 @@ none_held told term server spare of = subst (λ s. entries_held s.waiting ≤ sp
 -- an error is the same, whatever else might have been answered
 pub same_error : {A B E : Type 0} → (e x : E) → ◌≡◌ {A = Result A E} (Err e) (Err x) → ◌≡◌ {A = Result B E} (Err e) (Err x)
 same_error e x is = let same : e ≡ x = cc in ap Err same
+
+-- ---- what is told
+
+abbrev Told : Type 0
+Told = Result Served ServeError
+
+-- `Ok` is told only where nothing ended it
+abbrev Unended : Told → Result Unit Stop → Type 0
+Unended told ended = OnOk told ((stop : Stop) → IsErrOf ended stop → ⊥)
+
+pub told_anyhow : (X : Type 0) (told : Told) → X → OnOk told X
+told_anyhow X (Ok s) x = x
+told_anyhow X (Err e) x = tt
+
+pub told_of : (X : Type 0) (told : Told) (ended : Result Unit Stop) → Unended told ended → OnOk ended X → OnOk told X
+told_of X (Ok s) (Ok a) went x = x
+told_of X (Ok s) (Err stop) went x = absurd (went stop refl)
+told_of X (Err e) ended went x = tt
+
+pub sessions_told : (X : Type 0) (told : Told) (ended : Result Unit Stop) (sessions front : ℕ) → IfOk told (λ s. (s.sessions ≡ sessions) × (s.front ≡ front)) → Unended told ended → OnOk ended X → IfOk told (λ s. (s.sessions ≡ sessions) × X)
+sessions_told X (Ok s) (Ok a) sessions front is went x = (is.0, x)
+sessions_told X (Ok s) (Err stop) sessions front is went x = absurd (went stop refl)
+sessions_told X (Err e) ended sessions front is went x = tt
+
+pub front_told : (told : Told) (sessions front : ℕ) (first last : Option (List Kept)) → IfOk told (λ s. (s.sessions ≡ sessions) × (s.front ≡ front)) → IsFront first last front → IfOk told (λ s. IsFront first last s.front)
+front_told (Ok s) sessions front first last is of = subst (IsFront first last) (sym is.1) of
+front_told (Err e) sessions front first last is of = tt
 
 -- what `opened` goes by
 pub ruleset by_opened = (is_server_of, keeps_tree, is_bad)

@@ -1,29 +1,23 @@
--- Which records of a link were heard, each in a turn. Other threads' turns may stand before, between and behind these.
-use Rattle.std.specs.Prelude.{◌≡◌, ℕ, List, [], ◌∷◌, Option}
+-- Which records of a link were heard, each in a turn.
+use Rattle.std.specs.Prelude.{◌≡◌, ℕ, List, [], Option}
 use Rattle.std.specs.Io.KnownBytes.{Consumes}
-use mathlib.Core.List.{IsPrefix}
 use Rattle.record_ends.specs.Ends.{Kept, nothing_kept}
 use Rattle.turn_post.specs.declared.journaled.Journaled.{Ghosts}
 use Rattle.turn_post.specs.declared.post.Pass.{Pass}
-use Rattle.turn_post.specs.Passes.{seen}
 use Rattle.server_core.specs.declared.event.Event.{Event}
 use Rattle.server_held.specs.declared.held.Went.{Went}
 use Rattle.server_turns.specs.Turned.{IsHeard, IsHung}
 use Rattle.lbfs_server.specs.Ends.{Gave}
+use Rattle.lbfs_server.specs.Ordered.{InOrder}
 
 module _ {V E : Type 0} {g : Ghosts V E} (journal : V → List E) (hears : V → ℕ → List ℕ → ℕ → Went → V → Type 0) (session : ℕ) where
-  -- these records were heard, each in a turn behind that of the one before
-  abbrev pub AreHeard : List (List ℕ) → (before behind : Pass V E g) → Type 0
-  AreHeard [] before behind = IsPrefix (seen before) (seen behind)
-  AreHeard (bytes ∷ later) before behind = (between : Pass V E g) × IsHeard journal hears session bytes before between × AreHeard later between behind
-
   -- Of what was to come on a link some bytes were taken, and the records that stand in them were heard, in order; this is kept of the bytes.
   pub record HearsAll (left left' : Option (List ℕ)) (kept : Kept) (before behind : Pass V E g) : Type 0 where
     pub bytes : List ℕ
     pub records : List (List ℕ)
     pub consumed : Consumes left left' bytes
     pub gave : Gave nothing_kept bytes records kept
-    pub heard : AreHeard records before behind
+    pub heard : InOrder (IsHeard journal hears session) records before behind
 
   -- the same, and no record is kept that wasn't heard
   abbrev pub HearsToEnd : (left left' : Option (List ℕ)) → (before behind : Pass V E g) → Type 0

@@ -1,3 +1,5 @@
 pub mod Ends
+pub mod Given
 pub mod Heard
+pub mod Ordered
 pub mod Serve

@@ -13,7 +13,6 @@ use links::link::Link;
 use links::network::{AcceptError, Bell, Network};
 use links::rest::Rest;
 use record_ends::end::End;
-use server_core::event::Event;
 use server_held::held::Went;
 use server_held::turns::Turns;
 use server_turns::gate::Gate;
@@ -131,9 +130,9 @@ fn settle_all<R: Wait, H: Turns + Drop, Y: Syncs, G: Gate + Drop, L: Link + Drop
     }
     let mut pass = pass;
     for _at in 0..CHANGES_MOST {
-        let (next, went) = shared.event(rt, pass, Event::Settle { now });
+        let (next, made) = shared.make_one(rt, pass, now);
         pass = next;
-        if matches!(went, Went::NotReady) {
+        if !made {
             return shared.waits(rt, pass);
         }
     }
@@ -200,7 +199,7 @@ fn begin<
     ensures { Follows shared.now.post pass result.0 }
 {
     let mut link = link;
-    let (pass, went) = shared.event(rt, pass, Event::Connect);
+    let (pass, went) = shared.connect(rt, pass);
     match went {
         Went::Open { session } => {
             work.begin();
@@ -278,49 +277,6 @@ where
     unreachable!()
 }
 
-/// Takes links off the network until as many sessions as are asked for have begun.
-fn accept_all<
-    's,
-    'e,
-    R: Threads + Wait + Sync,
-    H: Turns + Drop + Send,
-    Y: Syncs + Sync,
-    G: Gate + Drop + Sync,
-    N: Network,
-    C: Clock + Sync,
-    T: Rest,
->(
-    scope: &'s Scope<'s, &'e ()>,
-    rt: &'e R,
-    shared: &'e Shared<H, Y, G, N::L>,
-    pass: Pass<H>,
-    net: &mut N,
-    clock: &'e C,
-    rest: &T,
-    work: &'e Work,
-    sessions: u32,
-) -> (Pass<H>, Result<(), Stop>)
-where
-    N::L: Drop + Send + 's,
-    requires { IsPassOf shared.now.post pass }
-    ensures pass { Follows shared.now.post pass result.0 }
-    ensures counted { OnOk result.1 (CountsMore (N.accepted net.old) sessions (N.accepted net.new)) }
-    ensures at { N.at net.new ≡ N.at net.old }
-    ensures later { N.faults net.old ≤ N.faults net.new }
-    ensures cause { IsErrOf result.1 stops.Network → Rose (N.faults net.old) (N.faults net.new) }
-    ensures alone { IsErrOf result.1 stops.NoThread → ⊥ }
-{
-    let mut pass = pass;
-    for _at in 0..sessions {
-        let (next, begun) = begin_next(scope, rt, shared, pass, net, clock, rest, work);
-        pass = next;
-        if let Err(stop) = begun {
-            return (pass, Err(stop));
-        }
-    }
-    (pass, Ok(()))
-}
-
 /// Listens at a port, and takes links off the network until as many sessions as are asked for have begun.
 fn listen_all<
     's,
@@ -357,7 +313,15 @@ where
     if net.listen(port).is_err() {
         return (pass, Err(Stop::Network));
     }
-    accept_all(scope, rt, shared, pass, net, clock, rest, work, sessions)
+    let mut pass = pass;
+    for _at in 0..sessions {
+        let (next, begun) = begin_next(scope, rt, shared, pass, net, clock, rest, work);
+        pass = next;
+        if let Err(stop) = begun {
+            return (pass, Err(stop));
+        }
+    }
+    (pass, Ok(()))
 }
 
 /// Listens at a port and serves as many sessions as are asked for, each in threads of its own; it

@@ -1,15 +1,18 @@
 //! Serving a store's tree on a port. `specs/Serve.antt` states which tree that is, and which record
 //! is told that breaks a rule.
 
-ghost use Rattle.std.specs.Prelude.{◌≡◌, ◌<◌, ◌^◌, ◌-◌, ◌⊎◌, ℕ, Some, IfOk, OnOk, IsErrOf};
+ghost use Rattle.std.specs.Prelude.{◌≡◌, ◌<◌, ◌^◌, ◌-◌, ◌⊎◌, ℕ, length, Some, IfOk, OnOk, IsErrOf};
 ghost use Rattle.lb_base.specs.Causes.{Rose};
 ghost use Rattle.lbfs_server.specs.Ends.{CountsMore};
 ghost use Rattle.lbfs_server.specs.Serve.{IsServerOf, IsBad, IsFront, quiet_from};
+ghost use Rattle.lbfs_server.specs.declared.listener.Stop.{Stop};
+ghost use Rattle.lbfs_server.specs.declared.listener.Stop.TheVariants as stops;
 ghost use Rattle.lbfs_server.specs.declared.serve.ServeError.TheVariants as errors;
 ghost use Rattle.server_held.specs.Kept.{KeepsTree, journal_of};
 ghost use Rattle.store.specs.declared.store.StoreError.TheVariants as store_errors;
 ghost use Rattle.server_law.specs.Facts.{Holds};
 ghost use Rattle.turn_post.specs.Passes.{IsPassOf, seen};
+ghost use mathlib.Core.List.{IsPrefix};
 
 use crate::hints::{content_ids, learn_all};
 use crate::listener::{Stop, serve_links};
@@ -18,13 +21,14 @@ use links::network::Network;
 use links::rest::Rest;
 use server_core::server::Server;
 use server_held::held::SharedServer;
+use server_held::turns::Turns;
 use server_turns::gate::Gate;
 use server_turns::shared::Shared;
 use std::alloc::{AllocFailed, Global};
 use std::sync::Wait;
 use std::thread::Threads;
 use store::store::{Store, StoreError};
-use synced_store::syncs::Synced;
+use synced_store::syncs::{Synced, Syncs};
 use tree_load::error::LoadError;
 use tree_load::load::load;
 use turn_post::post::{Pass, Post};
@@ -161,6 +165,74 @@ fn close_error(why: StoreError, before: u64, after: u64) -> ServeError
     }
 }
 
+/// Closes a store, and answers what came of serving it: how it ended, unless that fails.
+fn closed<S: Synced>(
+    store: &mut S,
+    before: u64,
+    ended: Result<(), Stop>,
+    sessions: u32,
+    front: u64,
+) -> Result<Served, ServeError>
+    ensures kept { S.records store.new ≡ S.records store.old }
+    ensures told { IfOk result (λ s. (s.sessions ≡ sessions) × (s.front ≡ front)) }
+    ensures ended { OnOk result ((stop : Stop) → IsErrOf ended stop → ⊥) }
+    ensures network { IsErrOf result errors.Network → IsErrOf ended stops.Network }
+    ensures alone { IsErrOf result errors.NoThread → IsErrOf ended stops.NoThread }
+    ensures store { IsErrOf result errors.Store → Rose before (S.faults store.new) }
+    ensures record { (which : ℕ) → IsErrOf result (errors.BadRecord which) → ⊥ }
+{
+    if let Err(why) = store.close() {
+        return Err(close_error(why, before, store.fault_count()));
+    }
+    match ended {
+        Ok(()) => Ok(Served { sessions, front }),
+        Err(Stop::Network) => Err(ServeError::Network),
+        Err(Stop::NoThread) => Err(ServeError::NoThread),
+        // Its close would have failed.
+        Err(Stop::Doubt) => Err(ServeError::Memory),
+    }
+}
+
+/// Serves what threads share, on a port, and gives it back with how long its journal is. It is written for any
+/// such thing, so that all that a server is stands in reach of `serve` alone.
+fn serve_post<
+    R: Threads + Wait + Sync,
+    H: Turns + Drop + Send,
+    Y: Syncs + Drop + Sync,
+    N: Network + Drop,
+    C: Clock + Sync,
+    T: Rest + Sync,
+    G: Gate + Drop + Sync,
+>(
+    rt: &R,
+    alloc: Global,
+    post: Post<H>,
+    pass: Pass<H>,
+    syncs: Y,
+    net: N,
+    clock: &C,
+    rest: &T,
+    gate: G,
+    quiet: u64,
+    port: u16,
+    sessions: u32,
+) -> (Result<(), Stop>, N, u64, H)
+where
+    N::L: Drop + Send,
+    requires { IsPassOf post pass }
+    ensures front { result.2 ≡ length (H.journal result.3) }
+    ensures seen { IsPrefix (seen pass) (H.journal result.3) }
+    ensures counted { OnOk result.0 (CountsMore (N.accepted net) sessions (N.accepted result.1)) }
+    ensures at { OnOk result.0 (N.at result.1 ≡ Some port) }
+    ensures cause { IsErrOf result.0 stops.Network → Rose (N.faults net) (N.faults result.1) }
+    ensures alone { IsErrOf result.0 stops.NoThread → result.1 ≡ net }
+{
+    let shared = Shared::new(alloc, post, syncs, gate, quiet);
+    let (ended, net, pass) = serve_links(rt, &shared, pass, net, clock, rest, port, sessions);
+    let (long, held) = shared.finish(rt, pass);
+    (ended, net, long, held)
+}
+
 /// Loads the tree of a store, listens at a port, and serves as many sessions as are asked for, each
 /// in threads of its own; it returns once they have ended, and gives the store and the network back.
 /// What the store then keeps is the tree of a server that holds what its journal says, over the tree that
@@ -217,20 +289,11 @@ where
         Ok(made) => made,
         Err(store) => return (Err(ServeError::Memory), store, net),
     };
-    let shared = Shared::new(alloc, post, syncs, gate, quiet);
-    let (ended, net, pass) = serve_links(rt, &shared, pass, net, clock, rest, port, sessions);
-    let (long, held) = shared.finish(rt, pass);
+    let (ended, net, long, held) = serve_post(
+        rt, alloc, post, pass, syncs, net, clock, rest, gate, quiet, port, sessions,
+    );
     let front = changes_in(long);
     let mut store = store_of(held);
-    if let Err(why) = store.close() {
-        let error = close_error(why, before, store.fault_count());
-        return (Err(error), store, net);
-    }
-    match ended {
-        Ok(()) => (Ok(Served { sessions, front }), store, net),
-        Err(Stop::Network) => (Err(ServeError::Network), store, net),
-        Err(Stop::NoThread) => (Err(ServeError::NoThread), store, net),
-        // Its close would have failed.
-        Err(Stop::Doubt) => (Err(ServeError::Memory), store, net),
-    }
+    let told = closed(&mut store, before, ended, sessions, front);
+    (told, store, net)
 }

@@ -26,22 +26,16 @@ fn code_of(word: &str) -> u64 {
     code(7, 0)
 }
 
-/// The number of the turn that begins.
-fn turn_of(who: Who) -> u64 {
-    match who {
-        Who::Listener => code(0, 0),
-        Who::Ticker => code(1, 0),
-        Who::Reader(session) => code(3, u64::from(session)),
-        Who::Writer(session) => code(4, u64::from(session)),
-    }
-}
-
-/// The number of a sleep; that of none, where nobody sleeps so.
-fn sleep_of(who: Who) -> u64 {
-    match who {
-        Who::Ticker => code(2, 0),
-        Who::Writer(session) => code(5, u64::from(session)),
-        Who::Listener | Who::Reader(_) => code(7, 0),
+/// The number of a turn or of a sleep; that of none, where nobody sleeps so.
+fn number_of(who: Who, sleeps: bool) -> u64 {
+    match (who, sleeps) {
+        (Who::Listener, false) => code(0, 0),
+        (Who::Ticker, false) => code(1, 0),
+        (Who::Ticker, true) => code(2, 0),
+        (Who::Reader(session), false) => code(3, u64::from(session)),
+        (Who::Writer(session), false) => code(4, u64::from(session)),
+        (Who::Writer(session), true) => code(5, u64::from(session)),
+        (Who::Listener | Who::Reader(_), true) => code(7, 0),
     }
 }
 
@@ -73,14 +67,12 @@ fn is_early(order: &Order, code: u64) -> bool {
     }
 }
 
-/// A turn begins.
-fn begin(order: &mut Order) {
-    order.has_begun = order.next < order.codes.len();
-}
-
-/// It ends.
-fn end(order: &mut Order) {
-    if order.has_begun {
+/// A turn begins or ends, or both.
+fn go_on(order: &mut Order, begins: bool, ends: bool) {
+    if begins {
+        order.has_begun = order.next < order.codes.len();
+    }
+    if ends && order.has_begun {
         order.has_begun = false;
         order.next = order.next.saturating_add(1);
     }
@@ -133,22 +125,21 @@ impl<R: Wait> TurnGate<R> {
 
 impl<R: Wait> Gate for TurnGate<R> {
     fn before(&self, who: Who) {
-        let mut order = self.held(turn_of(who));
-        begin(&mut order);
+        let mut order = self.held(number_of(who, false));
+        go_on(&mut order, true, false);
         drop(order);
     }
 
     fn after(&self) {
         let mut order = self.order.lock(&self.rt);
-        end(&mut order);
+        go_on(&mut order, false, true);
         drop(order);
         self.news.notify_all();
     }
 
     fn sleeps(&self, who: Who) {
-        let mut order = self.held(sleep_of(who));
-        begin(&mut order);
-        end(&mut order);
+        let mut order = self.held(number_of(who, true));
+        go_on(&mut order, true, true);
         drop(order);
         self.news.notify_all();
     }

@@ -1,5 +1,5 @@
-//! A session is told something while its content is cut and hashed: what is said goes out meanwhile, in a
-//! call of its own, since no thread of the session holds its link then.
+//! The content of a session that is cut and hashed while the session is told something: that goes out meanwhile, in
+//! a call of its own, since no thread of the session holds its link then.
 
 ghost use Rattle.turn_post.specs.Passes.{IsPassOf};
 
@@ -10,13 +10,9 @@ use lb_base::items::{Bytes, Items};
 use server_core::event::Event;
 use server_held::turns::Turns;
 use std::alloc::{AllocError, Global};
-use std::rt::Clock;
 use std::sync::Wait;
-use std::thread;
-use std::time::Duration;
-use trial_outside::port::Port;
 use turn_post::post::Pass;
-use wire::message::{Body, LBFS_SPOKEN, Message, RpcRefusal};
+use wire::message::{Body, LBFS_SPOKEN, Message};
 
 /// How many bytes a piece has, and how many there are.
 const PIECE: usize = 65_536;
@@ -28,73 +24,33 @@ fn zeros(alloc: Global) -> Result<Bytes, AllocError> {
     Ok(Items::from_vec(vec![in alloc; 0u8; PIECE]?))
 }
 
-/// The client's temporary file 1 gets all pieces, once the calls before are answered; none of it comes on
-/// the line.
-pub fn store_pieces<R: Wait + Clock + Copy + Drop, H: Turns + Drop>(
+/// The client's temporary file 1 gets all pieces; none of it comes on the line.
+pub fn store_pieces<R: Wait + Copy + Drop, H: Turns + Drop>(
     rt: &R,
     shared: &SharedOf<H, R>,
     pass: Pass<H>,
     session: u32,
-    port: &Port,
 ) -> Pass<H>
     requires { IsPassOf shared.now.post pass }
     ensures { IsPassOf shared.now.post result }
 {
-    port.await_records(rt, 2);
     let mut pass = pass;
     for at in 0..PIECES {
-        let Ok(bytes) = zeros(shared.alloc()) else {
-            return pass;
-        };
-        let piece = TempPiece {
-            lbfs: LBFS_SPOKEN,
-            fd: 1,
-            offset: u64::from(at).saturating_mul(PIECE as u64),
-            bytes,
-        };
-        let event = Event::Got {
-            session,
-            message: Message::Call(at, Body::Lb(Lb::TmpWrite(piece))),
-            now: 0,
-        };
-        let (next, _went) = shared.event(rt, pass, event);
-        pass = next;
+        if let Ok(bytes) = zeros(shared.alloc()) {
+            let piece = TempPiece {
+                lbfs: LBFS_SPOKEN,
+                fd: 1,
+                offset: u64::from(at).saturating_mul(PIECE as u64),
+                bytes,
+            };
+            let event = Event::Got {
+                session,
+                message: Message::Call(at, Body::Lb(Lb::TmpWrite(piece))),
+                now: 0,
+            };
+            let (next, _went) = shared.event(rt, pass, event);
+            pass = next;
+        }
     }
     pass
-}
-
-/// Something is said to the session.
-pub fn say<R: Wait + Clock + Copy + Drop, H: Turns + Drop>(
-    rt: &R,
-    shared: &SharedOf<H, R>,
-    pass: Pass<H>,
-    session: u32,
-) -> Pass<H>
-    requires { IsPassOf shared.now.post pass }
-    ensures { IsPassOf shared.now.post result }
-{
-    let event = Event::Got {
-        session,
-        message: Message::Unfit(7, RpcRefusal::ProcUnavail),
-        now: 0,
-    };
-    let (pass, _went) = shared.event(rt, pass, event);
-    pass
-}
-
-/// Once the COMMITTMP was taken something is said to the session.
-pub fn tell_meanwhile<R: Wait + Clock + Copy + Drop, H: Turns + Drop>(
-    rt: &R,
-    shared: &SharedOf<H, R>,
-    pass: Pass<H>,
-    session: u32,
-    port: &Port,
-) -> Pass<H>
-    requires { IsPassOf shared.now.post pass }
-    ensures { IsPassOf shared.now.post result }
-{
-    port.await_taken(rt);
-    port.forget_calls(rt);
-    thread::sleep(rt, Duration::from_millis(10));
-    say(rt, shared, pass, session)
 }

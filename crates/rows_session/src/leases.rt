@@ -4,11 +4,11 @@
 use crate::gate::TurnGate;
 use lbfs_server::serve::{ServeError, Served, serve};
 use row_text::out::Out;
-use std::alloc::{AllocError, Global};
+use std::alloc::Global;
 use std::sync::{Arc, Wait};
 use std::thread::Threads;
-use trial_outside::outside::store;
-use trial_outside::port::{Port, PortEnd, end_of};
+use trial_outside::outside::around;
+use trial_outside::port::{Port, PortEnd};
 use trial_outside::trial::Trial;
 
 /// How long a lease lasts, in milliseconds.
@@ -28,36 +28,7 @@ fn put_served(served: Result<Served, ServeError>, out: &mut Out) {
     }
 }
 
-/// Serves the port's lines, each in a session of its own.
-fn run<R: Threads + Wait + Sync + Send + Copy + Drop>(
-    rt: &R,
-    alloc: Global,
-    port: &Arc<Port>,
-    trial: &Trial<'_>,
-    out: &mut Out,
-) -> Result<(), AllocError> {
-    let store = store(alloc, trial, out)?;
-    let PortEnd {
-        network,
-        clock,
-        rest,
-    } = end_of(*rt, port, trial)?;
-    let sessions = network.lines();
-    let gate = TurnGate::new(*rt, alloc, trial, out);
-    let (served, store, network) = serve(
-        rt, alloc, store, "DIR", network, &clock, &rest, gate, 7000, TERM, sessions,
-    );
-    drop(store);
-    drop(network);
-    put_served(served, out);
-    if trial.setting("counted").is_some() {
-        out.text(" rests");
-        out.number(rest.rests());
-    }
-    Ok(())
-}
-
-/// What comes of a row.
+/// What comes of a row: the port's lines are served, each in a session of its own.
 pub fn put<R: Threads + Wait + Sync + Send + Copy + Drop>(
     rt: &R,
     alloc: Global,
@@ -65,7 +36,27 @@ pub fn put<R: Threads + Wait + Sync + Send + Copy + Drop>(
     trial: &Trial<'_>,
     out: &mut Out,
 ) {
-    let run = run(rt, alloc, port, trial, out);
-    out.note(run);
+    match around(*rt, alloc, port, trial, out) {
+        Ok((store, end)) => {
+            let PortEnd {
+                network,
+                clock,
+                rest,
+            } = end;
+            let sessions = network.lines.min(64) as u32;
+            let gate = TurnGate::new(*rt, alloc, trial, out);
+            let (served, store, network) = serve(
+                rt, alloc, store, "DIR", network, &clock, &rest, gate, 7000, TERM, sessions,
+            );
+            drop(store);
+            drop(network);
+            put_served(served, out)
+        }
+        Err(_) => out.lack(),
+    }
+    if trial.setting("counted").is_some() {
+        out.text(" rests");
+        out.number(port.rests());
+    }
     port.put_lines(rt, out)
 }

@@ -31,8 +31,10 @@ fn put_row<R: Threads + Wait + Clock + Sync + Send + Copy + Drop>(
     out.text(title);
     out.text(":");
     match Port::new(alloc, &trial, true, out) {
-        Ok(port) if kind == "leases" => leases::put(rt, alloc, &port, &trial, out),
-        Ok(port) => sessions::put(rt, alloc, &port, kind, out),
+        Ok(port) => match sessions::kind_of(kind) {
+            Some(kind) => sessions::put(rt, alloc, &port, kind, out),
+            None => leases::put(rt, alloc, &port, &trial, out),
+        },
         Err(_) => out.lack(),
     }
 }

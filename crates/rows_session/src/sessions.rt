@@ -6,7 +6,7 @@
 
 ghost use Rattle.turn_post.specs.Passes.{IsPassOf};
 
-use crate::hashing::{say, store_pieces, tell_meanwhile};
+use crate::hashing::store_pieces;
 use lb_base::items::Items;
 use lbfs_server::session::{session_both, session_in, session_out};
 use links::clock::FixedClock;
@@ -26,12 +26,54 @@ use std::thread::Threads;
 use std::time::Duration;
 use store::mem_store::MemStore;
 use synced_store::syncs::Synced;
-use trial_outside::port::{Port, PortLink};
+use trial_outside::line::Until;
+use trial_outside::port::{Port, PortLink, Three, three_of};
 use trial_outside::tried_store::{TriedStore, TriedSyncs};
 use turn_post::post::{Pass, Post};
+use wire::message::{Message, RpcRefusal};
 
 /// What the threads of a server share.
 pub(crate) type SharedOf<H, R> = Shared<H, TriedSyncs, OpenGate, PortLink<R>>;
+
+/// What another thread has to do with a session.
+#[derive(Clone, Copy)]
+pub struct Others {
+    /// Whether something is to be said to it.
+    says: bool,
+    /// Whether it is hung.
+    hangs: bool,
+    /// Whether a content of it is hashed before.
+    hashes: bool,
+}
+
+/// What a row has of sessions.
+#[derive(Clone, Copy)]
+pub enum Kind {
+    /// One connection after the other.
+    Connections,
+    /// A session in one thread.
+    Alone,
+    /// One in threads of its own, beside another.
+    Beside(Others),
+}
+
+/// What a word of a row says; nothing where it is of leases.
+pub fn kind_of(word: &str) -> Option<Kind> {
+    let (says, hangs, hashes) = match word {
+        "connections" => return Some(Kind::Connections),
+        "alone" => return Some(Kind::Alone),
+        "ends" => (true, false, false),
+        "hung" => (true, true, false),
+        "gone" => (false, true, false),
+        "hashes" => (true, false, true),
+        _ => return None,
+    };
+    Some(Kind::Beside(Others {
+        says,
+        hangs,
+        hashes,
+    }))
+}
 
 /// Why a session ended.
 fn name_of(end: End) -> &'static str {
@@ -44,38 +86,16 @@ fn name_of(end: End) -> &'static str {
 }
 
 /// Why no session stands.
-fn put_refused(went: Went, out: &mut Out) {
-    out.text(match went {
+fn refused_of(went: Went) -> &'static str {
+    match went {
         Went::Full => " Full",
         Went::Memory => " Memory",
-        _ => " another end",
-    })
-}
-
-/// What another thread has to do with a session.
-#[derive(Clone, Copy)]
-struct Others {
-    /// Whether something is to be said to it.
-    says: bool,
-    /// Whether it is hung.
-    hangs: bool,
-    /// Whether it is told something while a content of it is hashed.
-    hashes: bool,
-}
-
-impl Others {
-    /// What a row of this kind wants.
-    fn of(kind: &str) -> Others {
-        Others {
-            says: kind == "ends" || kind == "hung",
-            hangs: kind == "hung" || kind == "gone",
-            hashes: kind == "hashes",
-        }
+        Went::Open { .. } | Went::NotReady | Went::Closed => " another end",
     }
 }
 
 /// Once the session's threads sleep, something is said to it, where it should be, and a thread of it waits
-/// for its client then. Behind that the session is hung, where it should be.
+/// for its client then, or hashes. Behind that the session is hung, where it should be.
 fn speak_to<R: Wait + Clock + Copy + Drop, H: Turns + Drop>(
     rt: &R,
     shared: &SharedOf<H, R>,
@@ -89,12 +109,22 @@ fn speak_to<R: Wait + Clock + Copy + Drop, H: Turns + Drop>(
     thread::sleep(rt, Duration::from_millis(20));
     let mut pass = pass;
     if others.hashes {
-        pass = store_pieces(rt, shared, pass, session, port);
-        pass = tell_meanwhile(rt, shared, pass, session, port);
+        port.wait(rt, 0, Until::Given { records: 2 });
+        pass = store_pieces(rt, shared, pass, session);
+        port.wait(rt, 0, Until::Taken);
+        thread::sleep(rt, Duration::from_millis(10));
     }
     if others.says {
-        pass = say(rt, shared, pass, session);
-        port.await_speaker(rt);
+        let event = Event::Got {
+            session,
+            message: Message::Unfit(7, RpcRefusal::ProcUnavail),
+            now: 0,
+        };
+        let (next, _went) = shared.event(rt, pass, event);
+        pass = next;
+        if !others.hashes {
+            port.wait(rt, 0, Until::Speaker);
+        }
     }
     if others.hangs {
         let (pass, _went) = shared.event(rt, pass, Event::Hang { session });
@@ -144,119 +174,92 @@ fn run_threads<'x, R: Threads + Wait + Clock + Sync + Send + Copy + Drop, H: Tur
     )
 }
 
-/// How many further connections can be made.
-fn put_free<R: Wait + Copy + Drop, H: Turns + Drop>(
+/// How many of 66 connections stand; where they are a server's first ones, which are told the next number, and how
+/// the others end.
+fn put_connections<R: Wait + Copy + Drop, H: Turns + Drop>(
     rt: &R,
     shared: &SharedOf<H, R>,
     pass: Pass<H>,
+    are_first: bool,
     out: &mut Out,
 )
     requires { IsPassOf shared.now.post pass }
 {
     let mut pass = pass;
-    let mut free = 0u64;
-    for _at in 0..66u32 {
+    let mut stand = 0u64;
+    for next in 1..67u32 {
         let (later, went) = shared.event(rt, pass, Event::Connect);
         pass = later;
-        if matches!(went, Went::Open { .. }) {
-            free = free.wrapping_add(1);
+        match went {
+            Went::Open { session } if session == next || !are_first => {
+                stand = stand.saturating_add(1)
+            }
+            went if are_first => out.text(refused_of(went)),
+            _ => (),
         }
     }
     out.text(" free");
-    out.number(free)
+    out.number(stand)
 }
 
-/// Runs a session in its two threads, beside another that has to do with it.
-fn run_beside<R: Threads + Wait + Clock + Sync + Send + Copy + Drop, H: Turns + Drop + Send>(
+/// Runs a session in one thread, or in two beside another that has to do with it.
+fn run<R: Threads + Wait + Clock + Sync + Send + Copy + Drop, H: Turns + Drop + Send>(
     rt: &R,
     shared: &SharedOf<H, R>,
     pass: Pass<H>,
     session: u32,
-    port: &Arc<Port>,
-    others: Others,
-) -> Result<End, AllocError>
+    port: &Port,
+    links: Three<R>,
+    others: Option<Others>,
+) -> End
     requires { IsPassOf shared.now.post pass }
 {
-    let takes = PortLink::first(*rt, port)?;
-    let further = PortLink::first(*rt, port)?;
-    let gives = Mutex::new(PortLink::first(*rt, port)?);
-    shared.keep_link(rt, session, further);
-    Ok(run_threads(rt, shared, pass, session, port, &gives, takes, others))
+    let Three {
+        takes,
+        gives,
+        further,
+    } = links;
+    match others {
+        None => {
+            let mut link = takes;
+            let clock = FixedClock::at(0);
+            let (_pass, end) = session_both(rt, shared, pass, session, &mut link, &clock);
+            end
+        }
+        Some(others) => {
+            shared.keep_link(rt, session, further);
+            let gives = Mutex::new(gives);
+            run_threads(rt, shared, pass, session, port, &gives, takes, others)
+        }
+    }
 }
 
-/// Runs a session in one thread.
-fn run_alone<R: Threads + Wait + Copy + Drop, H: Turns + Drop>(
-    rt: &R,
-    shared: &SharedOf<H, R>,
-    pass: Pass<H>,
-    session: u32,
-    port: &Arc<Port>,
-) -> Result<End, AllocError>
-    requires { IsPassOf shared.now.post pass }
-{
-    let mut link = PortLink::first(*rt, port)?;
-    let clock = FixedClock::at(0);
-    let (_pass, end) = session_both(rt, shared, pass, session, &mut link, &clock);
-    Ok(end)
-}
-
-/// Runs a session, in one thread or in several, and tells why it ended.
+/// Runs a session, and tells why it ended, how many further connections can be made then, and what is left of its
+/// line.
 fn put_session<R: Threads + Wait + Clock + Sync + Send + Copy + Drop, H: Turns + Drop + Send>(
     rt: &R,
     shared: &SharedOf<H, R>,
     pass: Pass<H>,
     session: u32,
     port: &Arc<Port>,
-    kind: &str,
+    others: Option<Others>,
     out: &mut Out,
 )
     requires { IsPassOf shared.now.post pass }
 {
     let (pass, later) = shared.split(pass);
-    let end = if kind == "alone" {
-        run_alone(rt, shared, pass, session, port)
-    } else {
-        run_beside(rt, shared, pass, session, port, Others::of(kind))
-    };
-    match end {
-        Ok(end) => out.text(name_of(end)),
+    match three_of(*rt, port) {
+        Ok(links) => {
+            let end = run(rt, shared, pass, session, port, links, others);
+            out.text(name_of(end))
+        }
         Err(_) => out.lack(),
     }
-    put_free(rt, shared, later, out);
-    if kind == "hashes" {
-        out.text(" calls");
-        out.number(port.calls(rt));
-        return out.text("\n");
+    put_connections(rt, shared, later, false, out);
+    match others {
+        Some(Others { hashes: true, .. }) => port.put_calls(rt, out),
+        _ => port.put_lines(rt, out),
     }
-    port.put_lines(rt, out)
-}
-
-/// How many connections in a row are told the next number, of 64, and how two more end.
-fn put_connections<R: Wait + Copy + Drop, H: Turns + Drop>(
-    rt: &R,
-    shared: &SharedOf<H, R>,
-    pass: Pass<H>,
-    out: &mut Out,
-)
-    requires { IsPassOf shared.now.post pass }
-{
-    let mut pass = pass;
-    let mut told = 0u64;
-    for next in 1..65u32 {
-        let (later, went) = shared.event(rt, pass, Event::Connect);
-        pass = later;
-        match went {
-            Went::Open { session } if session == next => told = told.wrapping_add(1),
-            _ => (),
-        }
-    }
-    out.number(told);
-    for _at in 0..2 {
-        let (later, went) = shared.event(rt, pass, Event::Connect);
-        pass = later;
-        put_refused(went, out);
-    }
-    out.text("\n")
 }
 
 /// What comes of a row at a server.
@@ -265,18 +268,23 @@ fn put_shared<R: Threads + Wait + Clock + Sync + Send + Copy + Drop, H: Turns + 
     shared: &SharedOf<H, R>,
     pass: Pass<H>,
     port: &Arc<Port>,
-    kind: &str,
+    kind: Kind,
     out: &mut Out,
 )
     requires { IsPassOf shared.now.post pass }
 {
-    if kind == "connections" {
-        return put_connections(rt, shared, pass, out);
-    }
+    let others = match kind {
+        Kind::Connections => {
+            put_connections(rt, shared, pass, true, out);
+            return out.text("\n");
+        }
+        Kind::Alone => None,
+        Kind::Beside(others) => Some(others),
+    };
     let (pass, went) = shared.event(rt, pass, Event::Connect);
     match went {
-        Went::Open { session } => put_session(rt, shared, pass, session, port, kind, out),
-        went => put_refused(went, out),
+        Went::Open { session } => { put_session(rt, shared, pass, session, port, others, out) }
+        went => out.text(refused_of(went)),
     }
 }
 
@@ -287,7 +295,7 @@ fn put_held<R: Threads + Wait + Clock + Sync + Send + Copy + Drop>(
     held: SharedServer<TriedStore>,
     syncs: TriedSyncs,
     port: &Arc<Port>,
-    kind: &str,
+    kind: Kind,
     out: &mut Out,
 ) {
     match Post::new(alloc, held) {
@@ -299,7 +307,7 @@ fn put_held<R: Threads + Wait + Clock + Sync + Send + Copy + Drop>(
             drop(held.into_store())
         }
         Err(held) => {
-            drop(held);
+            drop(held.into_store());
             out.lack()
         }
     }
@@ -320,7 +328,7 @@ pub fn put<R: Threads + Wait + Clock + Sync + Send + Copy + Drop>(
     rt: &R,
     alloc: Global,
     port: &Arc<Port>,
-    kind: &str,
+    kind: Kind,
     out: &mut Out,
 ) {
     let Ok((store, syncs)) = empty_store(alloc) else {

@@ -120,6 +120,13 @@ module _ {S : Type 0} where
   Answers event.Connect step new said = Unit {0}
   Answers (event.Hang session) step new said = Unit {0}
 
+  -- All that was in a session's box was taken out, in order, and the box is empty; nothing, where the session has none. Nothing else changed.
+  pub record TakenOut (old : SharedServer S) (session : ℕ) (messages : List Message) (new : SharedServer S) : Type 0 where
+    pub taken : (held : List Message) → Holds old.boxes session held → (messages ≡ held) × Holds new.boxes session []
+    pub none : Lacks old.boxes session → (messages ≡ []) × Lacks new.boxes session
+    pub others : KeepsOthers old.boxes new.boxes session
+    pub kept : new.kept ≡ old.kept
+
 module _ {S : Type 0} (records : S → Option (List Kept)) (faults : S → ℕ) where
   -- These messages are in the boxes of their sessions. A session for whose message memory was wanting was hung instead, and memory didn't suffice.
   pub record Delivered (old : SharedServer S) (sent : List Sent) (sufficed : Bool) (new : SharedServer S) : Type 0 where

@@ -2,7 +2,7 @@
 //! `specs/Held.antt` states what an event makes of it.
 
 ghost use Rattle.std.specs.Prelude.{◌≡◌, ℕ, ◌<◌, ◌≤◌, ◌^◌, ◌↔◌, List, [], ◌∷◌, IsTrue, IfSome, IfNone, Some, None, Err, false};
-ghost use Rattle.server_held.specs.Boxes.{AllEmpty, Holds, Lacks, KeepsOthers};
+ghost use Rattle.server_held.specs.Boxes.{AllEmpty, Holds, Lacks};
 ghost use Rattle.server_core.specs.Closing.{has_waiting};
 ghost use Rattle.server_core.specs.State.{entries_held};
 ghost use Rattle.server_core.specs.Step.{IsTimed};
@@ -15,7 +15,7 @@ ghost use Rattle.server_law.specs.Growth.{MayAdd};
 ghost use Rattle.server_held.specs.Kept.{KeepsTree, journal_of};
 ghost use Rattle.server_held.specs.declared.boxes.Outbox.{Outbox};
 ghost use Rattle.slab.specs.Slab.{get};
-ghost use Rattle.server_held.specs.Held.{After, Delivered, HeardOrLeft, Joined, Left, Stands, Took, Unread, server_waits, given_up_if, is_farewell, is_unknown, settled_as, waits_for};
+ghost use Rattle.server_held.specs.Held.{After, Delivered, HeardOrLeft, Joined, Left, Stands, TakenOut, Took, Unread, server_waits, given_up_if, is_farewell, is_unknown, settled_as, waits_for};
 ghost use Rattle.server_held.specs.declared.held.Went.TheVariants as went;
 
 use crate::entries::Entered;
@@ -335,6 +335,8 @@ impl<S: Store + Drop> Turns for SharedServer<S> {
 
     ghost hears = { λ old session bytes now said new. HeardOrLeft S.records S.faults old session now (parse_of (waits_for old session) bytes) said new };
 
+    ghost gives = { λ old session messages new. TakenOut old session messages new };
+
     /// Whether a session stands.
     fn stands(&self, session: u32) -> bool
         ensures some { IsTrue result → (messages : List Message) × Holds self.now.boxes session messages }
@@ -452,10 +454,8 @@ impl<S: Store + Drop> Turns for SharedServer<S> {
 
     /// All that is to be said to a session, in order; nothing is left. It takes no memory.
     fn take_out(&mut self, session: u32) -> Vec<Message>
-        ensures taken { (messages : List Message) → Holds self.old.boxes session messages → (result.items ≡ messages) × Holds self.new.boxes session [] }
-        ensures none { Lacks self.old.boxes session → (result.items ≡ []) × Lacks self.new.boxes session }
-        ensures others { KeepsOthers self.old.boxes self.new.boxes session }
-        ensures kept { self.new.kept ≡ self.old.kept }
+        ensures gave { TakenOut self.old session result.items self.new }
+        ensures same { journal_of self.new.kept ≡ journal_of self.old.kept }
     {
         self.boxes.take(session).into_vec()
     }

@@ -1,6 +1,7 @@
 //! What a turn asks of that which the threads of a server share. It is `SharedServer`; the turns and the loops
 //! are written for any such thing, and so none of them is checked with all that a server consists of. What an
-//! event and a record make is a relation of the thing's own (`does`, `hears`), which a loop owes by these.
+//! event and a record make, and what is taken out, is a relation of the thing's own (`does`, `hears`, `gives`),
+//! which a loop owes by these.
 
 ghost use Rattle.std.specs.Prelude.{◌≡◌, ℕ, ◌<◌, ◌^◌, List};
 ghost use Rattle.server_law.specs.Growth.{MayAdd};
@@ -9,6 +10,7 @@ ghost use Rattle.server_core.specs.declared.event.Event.{Event};
 ghost use Rattle.server_held.specs.Held.{server_waits};
 ghost use Rattle.server_held.specs.declared.held.Went.{Went};
 ghost use Rattle.wire.specs.Parse.{parse_of, IsParsed};
+ghost use Rattle.wire.specs.declared.message.Message.{Message};
 
 use crate::held::Went;
 use hash_calls::call::Commit;
@@ -27,6 +29,9 @@ pub trait Turns: Journaled {
 
     /// What a record of a session makes at a reading, and what is said of it.
     ghost hears: { Self → ℕ → List ℕ → ℕ → Went → Self → Type 0 };
+
+    /// What is left where these messages to a session are taken out.
+    ghost gives: { Self → ℕ → List Message → Self → Type 0 };
 
     /// Whether a session stands.
     fn stands(&self, session: u32) -> bool;
@@ -78,7 +83,8 @@ pub trait Turns: Journaled {
 
     /// All that is to be said to a session.
     fn take_out(&mut self, session: u32) -> Vec<Message>
-        ensures { Self.journal self.new ≡ Self.journal self.old };
+        ensures gave { gives self.old session result.items self.new }
+        ensures same { Self.journal self.new ≡ Self.journal self.old };
 }
 
 /// The same of what lies elsewhere: a turn then moves a pointer, and not all that a server is.
@@ -86,6 +92,8 @@ impl<H: Turns> Turns for Box<H> {
     ghost does = { λ old event said new. H.does old.value event said new.value };
 
     ghost hears = { λ old session bytes now said new. H.hears old.value session bytes now said new.value };
+
+    ghost gives = { λ old session messages new. H.gives old.value session messages new.value };
 
     fn stands(&self, session: u32) -> bool {
         (**self).stands(session)

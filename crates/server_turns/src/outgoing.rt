@@ -13,18 +13,38 @@ use wire::message::{Body, Message};
 use xdr_codec::answer::Answer;
 
 /// What there is to say to a session, as it was taken in a turn. Nothing of it may go out yet.
-#[derive(Drop)]
 pub struct Taken {
     messages: Vec<Message>,
     stands: bool,
 }
 
+// By hand: docs/proving/dropping.md.
+impl Drop for Taken {
+    fn drop(self) {
+        let Taken {
+            messages,
+            stands: _,
+        } = self;
+        drop(messages);
+    }
+}
+
 /// What may go out to a session: where a message of it tells what the store has (`tells`), a `sync` behind its
 /// turn has answered `Ok`. It is made by `Taken::sync` alone.
-#[derive(Drop)]
 pub struct Sure {
     messages: Vec<Message>,
     stands: bool,
+}
+
+// By hand, as above.
+impl Drop for Sure {
+    fn drop(self) {
+        let Sure {
+            messages,
+            stands: _,
+        } = self;
+        drop(messages);
+    }
 }
 
 /// Whether a message is a call.

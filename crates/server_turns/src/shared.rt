@@ -5,20 +5,21 @@
 ghost use Rattle.std.specs.Prelude.{◌≡◌, true, nat_le, ◌<◌, ◌^◌, [], ◌∷◌, length, All, Contains, OnOk, IfOk, IfSome};
 ghost use Rattle.std.specs.List.Sorted.{IsPermutation};
 ghost use Rattle.server_turns.specs.Telling.{any_tells};
-ghost use Rattle.server_turns.specs.Turned.{InTurn, IsHeard, IsHung};
+ghost use Rattle.server_turns.specs.Turned.{InTurn, IsAnswered, IsHung, IsTaken};
 ghost use Rattle.server_turns.specs.declared.shared.SessionLink.{SessionLink};
 ghost use Rattle.server_core.specs.Step.{IsTimed};
-ghost use Rattle.server_law.specs.Growth.{MayAdd};
 ghost use Rattle.server_held.specs.Held.{server_waits};
 ghost use Rattle.wire.specs.Parse.{parse_of, IsParsed};
 ghost use Rattle.turn_post.specs.Passes.{IsPassOf, Follows, seen};
 ghost use mathlib.Core.List.{IsPrefix};
 
-use crate::bells::{Bells, PLACES, Rung, bit};
+use crate::bells::{Bells, PLACES};
 use crate::gate::{Gate, Who};
+use crate::inside::{
+    Behind, Got, Happened, Prepared, Settled, any_waits, behind_in, commit_in, event_in, gone,
+    got_in, is_owed, quiet_bell, settles_from, taken_in,
+};
 use crate::outgoing::{Sure, Taken};
-use hash_calls::call::Commit;
-use hash_calls::message::Lb;
 use lb_base::source::Failed;
 use links::link::Link;
 use server_core::event::Event;
@@ -31,8 +32,8 @@ use std::thread::Threads;
 use synced_store::syncs::Syncs;
 use tree_nodes::content::Content;
 use turn_post::post::{Pass, Post};
-use wire::fault::{WireError, WireFault};
-use wire::message::{Body, Message};
+use wire::fault::WireError;
+use wire::message::Message;
 
 /// What the threads of a server share, and by what those are woken that have nothing to say.
 pub struct Shared<H: Turns, Y, G, L> {
@@ -72,36 +73,6 @@ impl<H: Turns + Drop, Y: Drop, G: Drop, L: Drop> Drop for Shared<H, Y, G, L> {
     }
 }
 
-/// A record of a session as it was read, and what was made of it before its turn.
-pub struct Prepared {
-    read: Result<Message, WireError>,
-    /// The content that its COMMITTMP comes to, cut and hashed.
-    ahead: Option<Content>,
-}
-
-// By hand, as above.
-impl Drop for Prepared {
-    fn drop(self) {
-        let Prepared { read, ahead } = self;
-        drop(read);
-        drop(ahead);
-    }
-}
-
-impl Prepared {
-    /// Whether the record is an answer.
-    pub fn answers(&self) -> bool {
-        is_answer(&self.read)
-    }
-
-    fn into_parts(self) -> (Result<Message, WireError>, Option<Content>)
-        ensures { result ≡ (self.read, self.ahead) }
-    {
-        let Prepared { read, ahead } = self;
-        (read, ahead)
-    }
-}
-
 /// A further link to a session's client, on which nothing is taken and nothing given.
 #[derive(Drop)]
 struct SessionLink<L> {
@@ -123,258 +94,6 @@ fn remove_link<L: Drop>(links: &mut Vec<SessionLink<L>>, session: u32)
     }
     if at < links.len() {
         drop(links.swap_remove(at));
-    }
-}
-
-/// The bit of a session's place; none, where it doesn't stand.
-fn bit_of<H: Turns>(held: &H, session: u32) -> u64 {
-    match held.place(session) {
-        Some(place) => bit(place),
-        None => 0,
-    }
-}
-
-/// What a session's bell has rung, if the session stands and nothing is to be said to it.
-fn quiet_bell<H: Turns>(bells: &Bells, held: &H, session: u32) -> Option<Rung> {
-    let place = held.place(session)?;
-    if held.is_full_at(place) {
-        return None;
-    }
-    Some(bells.rung(held, place))
-}
-
-/// Whether something is to be said to a session that stands, or will be once a change of it is made.
-fn is_owed<H: Turns>(held: &H, session: u32) -> bool {
-    match held.place(session) {
-        Some(place) => held.is_full_at(place) || held.waits(session),
-        None => false,
-    }
-}
-
-/// The bits of the places of those sessions to which something is to be said.
-fn said_in<H: Turns>(held: &H) -> u64 {
-    if held.is_still() {
-        return 0;
-    }
-    let mut places = 0;
-    for place in 0..PLACES {
-        if held.is_full_at(place) {
-            places |= bit(place);
-        }
-    }
-    places
-}
-
-/// Whether a change waits of a session that stands.
-fn any_waits<H: Turns>(held: &H) -> bool {
-    for place in 0..PLACES {
-        if held.waits_at(place) {
-            return true;
-        }
-    }
-    false
-}
-
-/// Whether a change of a session waits, if there is one.
-fn its_waits<H: Turns>(held: &H, session: Option<u32>) -> bool {
-    match session {
-        Some(session) => held.waits(session),
-        None => false,
-    }
-}
-
-/// Whether changes that wait are made at a reading: from this one on.
-fn settles_from(quiet: u64, now: u64) -> bool
-    ensures { result ≡ nat_le quiet now }
-{
-    quiet <= now
-}
-
-/// What came of a turn in which a pending change may be made, and a session that has no xid left for what it
-/// was to be asked, if there is one. It can't be dropped, but by `close_spent`.
-struct Settled {
-    went: Went,
-    spent: Option<u32>,
-}
-
-/// A pending change is made, if it may be, and if the quiet is over.
-#[tactic(auto, using(crate::proofs::Adding::adds_none))]
-fn settle_in<H: Turns>(held: &mut H, alloc: Global, quiet: u64, now: u64) -> Settled
-    requires { now < 2 ^ 63 }
-    ensures { MayAdd (H.journal held.old) (H.journal held.new) }
-{
-    let went = if settles_from(quiet, now) {
-        held.event(alloc, Event::Settle { now })
-    } else {
-        Went::NotReady
-    };
-    Settled {
-        went,
-        spent: held.spent(),
-    }
-}
-
-/// A record of a session is heard, with what was made of it before.
-fn hear_in<H: Turns>(
-    held: &mut H,
-    alloc: Global,
-    session: u32,
-    bytes: &[u8],
-    prepared: Prepared,
-    now: u64,
-) -> Went
-    requires { now < 2 ^ 63 }
-    ensures heard { IsParsed prepared.read (parse_of server_waits bytes.now) → H.hears held.old session bytes.now now result held.new }
-    ensures grows { MayAdd (H.journal held.old) (H.journal held.new) }
-{
-    let (read, ahead) = prepared.into_parts();
-    held.prepare(ahead);
-    let heard = held.heard(alloc, session, bytes, read, now);
-    held.prepare(None);
-    heard
-}
-
-/// What came of the turn of an event.
-#[derive(Clone, Copy)]
-struct Happened {
-    went: Went,
-    /// The bits of the places whose threads it wakes.
-    wakes: u64,
-    /// Whether a change of its session waits.
-    waits: bool,
-}
-
-/// The bits of the places of those to whom an event said something: where no change could be made nothing was
-/// said to anybody.
-fn said_behind<H: Turns>(held: &H, went: Went) -> u64 {
-    match went {
-        Went::NotReady => 0,
-        _ => said_in(held),
-    }
-}
-
-/// The bit of an event's session, where it has one that stands.
-fn its_bit<H: Turns>(held: &H, session: Option<u32>) -> u64 {
-    match session {
-        Some(session) => bit_of(held, session),
-        None => 0,
-    }
-}
-
-/// One event.
-fn event_in<H: Turns>(held: &mut H, alloc: Global, event: Event) -> Happened
-    requires { IsTimed event }
-    ensures after { H.does held.old event result.went held.new }
-    ensures grows { MayAdd (H.journal held.old) (H.journal held.new) }
-{
-    let its = session_of(&event);
-    let own = its_bit(held, its);
-    let went = held.event(alloc, event);
-    Happened {
-        went,
-        wakes: gone(went, own) | said_behind(held, went),
-        waits: its_waits(held, its),
-    }
-}
-
-/// What came of the turn of a record.
-struct Got {
-    heard: Went,
-    /// The bits of the places whose threads it wakes.
-    wakes: u64,
-    /// What there is to say to its session; none, where a change may be made in a turn behind this one, which
-    /// takes it.
-    answer: Option<Taken>,
-}
-
-/// What there is to say to a session is taken, and whether more may follow.
-fn taken_in<H: Turns>(held: &mut H, session: u32) -> Taken
-    ensures { H.journal held.new ≡ H.journal held.old }
-{
-    let messages = held.take_out(session);
-    let stands = held.stands(session);
-    Taken::new(messages, stands)
-}
-
-/// What there is to say to a session behind a record of it is taken; nothing, where a change of it waits or the
-/// record was an answer.
-fn answer_in<H: Turns>(held: &mut H, session: u32, answers: bool) -> Option<Taken>
-    ensures { H.journal held.new ≡ H.journal held.old }
-{
-    if answers || held.waits(session) {
-        return None;
-    }
-    Some(taken_in(held, session))
-}
-
-/// The bits of the places of those to whom something is said, where a record was answered in its turn; else
-/// the turn behind it finds them.
-fn said_with<H: Turns>(held: &H, answered: bool) -> u64 {
-    if answered { said_in(held) } else { 0 }
-}
-
-/// A record of a session is heard, and answered where nothing waits.
-fn got_in<H: Turns>(
-    held: &mut H,
-    alloc: Global,
-    session: u32,
-    bytes: &[u8],
-    prepared: Prepared,
-    now: u64,
-) -> Got
-    requires { now < 2 ^ 63 }
-    ensures heard { IsParsed prepared.read (parse_of server_waits bytes.now) → (left : H) × H.hears held.old session bytes.now now result.heard left × (H.journal held.new ≡ H.journal left) }
-    ensures grows { MayAdd (H.journal held.old) (H.journal held.new) }
-{
-    let answers = prepared.answers();
-    let own = bit_of(held, session);
-    let heard = hear_in(held, alloc, session, bytes, prepared, now);
-    let answer = answer_in(held, session, answers);
-    let said = said_with(held, answer.is_some());
-    Got {
-        heard,
-        wakes: gone(heard, own) | said,
-        answer,
-    }
-}
-
-/// The bits of those whose session an event may have ended: that of its own session, where it went, and
-/// all where memory was wanting.
-fn gone(went: Went, own: u64) -> u64 {
-    match went {
-        Went::Closed => own,
-        Went::Memory => u64::MAX,
-        Went::Open { .. } | Went::NotReady | Went::Full => 0,
-    }
-}
-
-/// The session that an event may end for another reason than running out of memory.
-fn session_of(event: &Event) -> Option<u32> {
-    match event {
-        Event::Got { session, .. } | Event::Hang { session } => Some(*session),
-        Event::Connect | Event::Settle { .. } => None,
-    }
-}
-
-/// The COMMITTMP that a record is, if it is one.
-fn commit_in(read: &Result<Message, WireError>) -> Option<&Commit> {
-    match read {
-        Ok(message) => match message {
-            Message::Call(_, body) => match body {
-                Body::Lb(Lb::CommitTmp(commit)) => Some(commit),
-                _ => None,
-            },
-            _ => None,
-        },
-        Err(_) => None,
-    }
-}
-
-/// Whether a record is an answer: it was read as if nothing had been asked for.
-fn is_answer(read: &Result<Message, WireError>) -> bool {
-    match read {
-        Ok(_) => false,
-        Err(error) => matches!(error, WireError::Fault(WireFault::UnknownXid { .. })),
     }
 }
 
@@ -437,6 +156,34 @@ impl<H: Turns + Drop, Y: Syncs, G: Gate + Drop, L: Link + Drop> Shared<H, Y, G, 
         self.tell_ticker(waits);
         self.gate.after();
         (pass, went)
+    }
+
+    /// A turn in which a connection is made.
+    pub fn connect<W: Wait>(&self, rt: &W, pass: Pass<H>) -> (Pass<H>, Went)
+        requires { IsPassOf self.now.post pass }
+        ensures { Follows self.now.post pass result.0 }
+    {
+        self.event(rt, pass, Event::Connect)
+    }
+
+    /// A turn that hangs a session.
+    pub fn hang<W: Wait>(&self, rt: &W, pass: Pass<H>, session: u32) -> Pass<H>
+        requires { IsPassOf self.now.post pass }
+        ensures follows { Follows self.now.post pass result }
+        ensures hung { IsHung H.journal H.does session pass result }
+    {
+        let (next, _went) = self.event(rt, pass, Event::Hang { session });
+        next
+    }
+
+    /// A turn in which a pending change is made, if one can be; the answer is whether it could.
+    pub fn make_one<W: Wait>(&self, rt: &W, pass: Pass<H>, now: u64) -> (Pass<H>, bool)
+        requires pass { IsPassOf self.now.post pass }
+        requires timed { now < 2 ^ 63 }
+        ensures { Follows self.now.post pass result.0 }
+    {
+        let (next, went) = self.event(rt, pass, Event::Settle { now });
+        (next, !matches!(went, Went::NotReady))
     }
 
     /// What is made of a record before its turn: the content that its COMMITTMP comes to, cut and
@@ -502,7 +249,7 @@ impl<H: Turns + Drop, Y: Syncs, G: Gate + Drop, L: Link + Drop> Shared<H, Y, G, 
         requires pass { IsPassOf self.now.post pass }
         requires timed { now < 2 ^ 63 }
         ensures follows { Follows self.now.post pass result.0 }
-        ensures heard { IsParsed prepared.read (parse_of server_waits bytes.now) → IsHeard H.journal H.hears session bytes.now pass result.0 }
+        ensures answered { IsParsed prepared.read (parse_of server_waits bytes.now) → IsAnswered H.journal H.hears H.gives session bytes.now result.1.messages.items pass result.0 }
     {
         self.gate.before(Who::Reader(session));
         let mut turn = self.post.enter(rt, pass);
@@ -526,15 +273,19 @@ impl<H: Turns + Drop, Y: Syncs, G: Gate + Drop, L: Link + Drop> Shared<H, Y, G, 
     fn settle<W: Wait>(&self, rt: &W, pass: Pass<H>, session: u32, now: u64) -> (Pass<H>, Taken)
         requires pass { IsPassOf self.now.post pass }
         requires timed { now < 2 ^ 63 }
-        ensures { Follows self.now.post pass result.0 }
+        ensures follows { Follows self.now.post pass result.0 }
+        ensures took { IsTaken H.journal H.gives session result.1.messages.items pass result.0 }
     {
         self.gate.before(Who::Reader(session));
         let mut turn = self.post.enter(rt, pass);
-        let settled = settle_in(turn.value(), self.alloc, self.quiet, now);
-        let taken = taken_in(turn.value(), session);
-        let said = said_in(&*turn.value());
-        let waits = turn.value().waits(session);
+        let behind = behind_in(turn.value(), self.alloc, self.quiet, session, now);
         let pass = turn.leave();
+        let Behind {
+            settled,
+            taken,
+            said,
+            waits,
+        } = behind;
         let went = settled.went;
         let pass = self.wake(rt, pass, went, gone(went, 0) | said);
         self.tell_ticker(waits);
@@ -591,7 +342,7 @@ impl<H: Turns + Drop, Y: Syncs, G: Gate + Drop, L: Link + Drop> Shared<H, Y, G, 
         ensures follows { Follows self.now.post pass result.0 }
         ensures hung { IsHung H.journal H.does session pass result.0 }
     {
-        let (next, _went) = self.event(rt, pass, Event::Hang { session });
+        let next = self.hang(rt, pass, session);
         self.spent_now(rt, next)
     }
 
@@ -653,7 +404,8 @@ impl<H: Turns + Drop, Y: Syncs, G: Gate + Drop, L: Link + Drop> Shared<H, Y, G, 
         _link: &L,
     ) -> (Pass<H>, Taken)
         requires { IsPassOf self.now.post pass }
-        ensures { Follows self.now.post pass result.0 }
+        ensures follows { Follows self.now.post pass result.0 }
+        ensures took { IsTaken H.journal H.gives session result.1.messages.items pass result.0 }
     {
         self.gate.before(Who::Writer(session));
         let mut turn = self.post.enter(rt, pass);

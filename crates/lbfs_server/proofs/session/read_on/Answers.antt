@@ -1,12 +1,10 @@
 use Rattle.std.specs.Prelude.{Err}
 use Rattle.std.proofs.Common.{refl, sym, ap, ◌∙◌, subst, arith}
-use Rattle.turn_post.specs.Passes.{seen}
-use Rattle.turn_post.proofs.lemmas.Fronts.{prefix_self}
 use Rattle.server_turns.specs.Turned.{IsHeard}
 use Rattle.lbfs_server.specs.Heard.{HearsAll}
 use Rattle.lbfs_server.proofs.Following.{follows_self, follows_trans}
 use Rattle.lbfs_server.proofs.Giving.{Taken, taken_none, taken_more, taken_spoilt}
-use Rattle.lbfs_server.proofs.Hearing.{heard_between, hears_none, hears_more, hears_at_end, starved}
+use Rattle.lbfs_server.proofs.Hearing.{hears_none, hears_more, hears_at_end, starved}
 use Rattle.lbfs_server.proofs.session.read_on.Goals as goal
 
 pub loop-turn-init : goal.loop-turn-init
@@ -20,12 +18,12 @@ loop-turn-init g c = record {
 
 pub loop-turn-preserved : goal.loop-turn-preserved
 loop-turn-preserved g c =
-    let given = c.in-Ok-next.ensures.given in record {
-      pass = follows_trans c.args.shared.now.post c.args.pass c.loop-turn.pass c.got-next.result.0 c.loop-turn.invariant.pass (follows_trans c.args.shared.now.post c.loop-turn.pass c.read-read.result.0 c.got-next.result.0 c.read-read.ensures.follows c.got-next.ensures.follows);
+    let given = c.in-Ok-next.ensures.given in
+    record {
+      pass = follows_trans c.args.shared.now.post c.args.pass c.loop-turn.pass c.hear_beside-next.result.0 c.loop-turn.invariant.pass c.hear_beside-next.ensures.pass;
       taken = taken_more (g.L.Link.left c.args.link.now) (g.L.Link.left c.loop-turn.link) (g.L.Link.left c.next-in-loop-turn.new.link) c.loop-turn.inbox c.next-in-loop-turn.new.self given.0 _ c.loop-turn.invariant.taken given.1 given.2;
-      heard = hears_more g.H.Journaled.journal g.H.Turns.hears c.args.session (g.L.Link.left c.args.link.now) (g.L.Link.left c.loop-turn.link) (g.L.Link.left c.next-in-loop-turn.new.link) c.loop-turn.inbox c.next-in-loop-turn.new.self given.0 _ c.args.pass c.loop-turn.pass c.got-next.result.0 c.loop-turn.invariant.heard given.1 given.2
-          (subst (λ bytes. IsHeard g.H.Journaled.journal g.H.Turns.hears c.args.session bytes c.loop-turn.pass c.got-next.result.0) c.as_slice-bytes.ensures
-          (heard_between g.H.Journaled.journal g.H.Turns.hears c.args.session c.as_slice-bytes.result.now c.loop-turn.pass c.read-read.result.0 c.got-next.result.0 c.got-next.result.0 c.read-read.ensures.follows.1 (c.got-next.ensures.heard c.read-read.ensures.parsed) (prefix_self (seen c.got-next.result.0))));
+      heard = hears_more g.H.Journaled.journal g.H.Turns.hears c.args.session (g.L.Link.left c.args.link.now) (g.L.Link.left c.loop-turn.link) (g.L.Link.left c.next-in-loop-turn.new.link) c.loop-turn.inbox c.next-in-loop-turn.new.self given.0 _ c.args.pass c.loop-turn.pass c.hear_beside-next.result.0 c.loop-turn.invariant.heard given.1 given.2
+          (subst (λ bytes. IsHeard g.H.Journaled.journal g.H.Turns.hears c.args.session bytes c.loop-turn.pass c.hear_beside-next.result.0) c.as_slice-bytes.ensures c.hear_beside-next.ensures.heard);
       out = c.in-Ok-next.ensures.out ∙ c.loop-turn.invariant.out;
       later = omega (arith, c.loop-turn.invariant.later, c.in-Ok-next.ensures.later);
     }

@@ -3,6 +3,3 @@ use Rattle.rows_session.proofs.sessions.put_connections.Given as goal
 
 abbrev pub invariant-loop-next : goal.invariant-loop-next
 invariant-loop-next g l = IsPassOf l.shared.post l.pass
-
-abbrev pub invariant-loop-at : goal.invariant-loop-at
-invariant-loop-at g l = IsPassOf l.shared.post l.pass

@@ -1,33 +1,59 @@
 use Rattle.std.proofs.Common.{sym, subst, ◌∙◌}
 use mathlib.Core.List.{IsPrefix}
 use Rattle.turn_post.specs.Passes.{seen, value_of}
-use Rattle.turn_post.proofs.lemmas.Fronts.{prefix_trans}
+use Rattle.turn_post.proofs.lemmas.Fronts.{prefix_self, prefix_trans}
+use Rattle.server_law.specs.Growth.{MayAdd}
+use Rattle.server_turns.specs.Turned.{TakesOut}
+use Rattle.server_turns.proofs.Turnings.{seen_more}
 use Rattle.server_turns.proofs.shared.Shared.got.Goals as goal
 
-pub returns-in-Some-clause-heard : goal.returns-in-Some-clause-heard
-returns-in-Some-clause-heard g c = λ is.
-    let h = c.got_in-got.ensures.heard is in (
-      c.args.now,
-      c.got_in-got.result.heard,
-      record {
-        found = value_of c.enter-turn.result;
-        left = h.0;
-        begins = subst (λ es. IsPrefix (seen c.args.pass) es) (sym c.enter-turn.ensures.found) c.enter-turn.ensures.seen;
-        done = subst (λ found. g.H.Turns.hears found c.args.session c.args.bytes.now c.args.now c.got_in-got.result.heard h.0) c.value.ensures.value h.1;
-        ends = subst (λ es. IsPrefix es (seen c.wake-pass.result)) (c.leave-pass.ensures.seen ∙ h.2) c.wake-pass.ensures.1;
-      },
-    )
+pub returns-in-Some-clause-answered : goal.returns-in-Some-clause-answered
+returns-in-Some-clause-answered g c = λ is.
+    let h = c.got_in-got.ensures.heard is in
+    record {
+      between = c.leave-pass.result;
+      heard = (
+        c.args.now,
+        c.got_in-got.result.heard,
+        record {
+          found = value_of c.enter-turn.result;
+          left = h.0;
+          begins = subst (λ es. IsPrefix (seen c.args.pass) es) (sym c.enter-turn.ensures.found) c.enter-turn.ensures.seen;
+          done = subst (λ found. g.H.Turns.hears found c.args.session c.args.bytes.now c.args.now c.got_in-got.result.heard h.0) c.value.ensures.value h.1;
+          ends = subst (λ es. IsPrefix es (seen c.leave-pass.result)) (c.leave-pass.ensures.seen ∙ h.3) (prefix_self (seen c.leave-pass.result));
+        },
+      );
+      took = record {
+        found = h.0;
+        left = c.got_in-got.new.held;
+        begins = subst (λ es. IsPrefix (seen c.leave-pass.result) es) (c.leave-pass.ensures.seen ∙ h.3) (prefix_self (seen c.leave-pass.result));
+        done = subst (λ answer. TakesOut g.H.Turns.gives c.args.session answer h.0 c.got_in-got.new.held) c.in-Some.is h.2;
+        ends = subst (λ es. IsPrefix es (seen c.wake-pass.result)) c.leave-pass.ensures.seen c.wake-pass.ensures.1;
+      };
+      first = seen_more g.H.Journaled.journal c.args.pass c.leave-pass.result (value_of c.enter-turn.result) c.got_in-got.new.held _ c.enter-turn.ensures.seen c.enter-turn.ensures.found
+          (subst (λ value. MayAdd (g.H.Journaled.journal value) (g.H.Journaled.journal c.got_in-got.new.held)) c.value.ensures.value c.got_in-got.ensures.grows) c.leave-pass.ensures.seen;
+      later = c.wake-pass.ensures.1;
+    }
 
-pub returns-in-None-clause-heard : goal.returns-in-None-clause-heard
-returns-in-None-clause-heard g c = λ is.
-    let h = c.got_in-got.ensures.heard is in (
-      c.args.now,
-      c.got_in-got.result.heard,
-      record {
-        found = value_of c.enter-turn.result;
-        left = h.0;
-        begins = subst (λ es. IsPrefix (seen c.args.pass) es) (sym c.enter-turn.ensures.found) c.enter-turn.ensures.seen;
-        done = subst (λ found. g.H.Turns.hears found c.args.session c.args.bytes.now c.args.now c.got_in-got.result.heard h.0) c.value.ensures.value h.1;
-        ends = prefix_trans _ _ _ (subst (λ es. IsPrefix es (seen c.wake-pass.result)) (c.leave-pass.ensures.seen ∙ h.2) c.wake-pass.ensures.1) c.settle.ensures.1;
-      },
-    )
+pub returns-in-None-clause-answered : goal.returns-in-None-clause-answered
+returns-in-None-clause-answered g c = λ is.
+    let h = c.got_in-got.ensures.heard is in
+    record {
+      between = c.wake-pass.result;
+      heard = (
+        c.args.now,
+        c.got_in-got.result.heard,
+        record {
+          found = value_of c.enter-turn.result;
+          left = h.0;
+          begins = subst (λ es. IsPrefix (seen c.args.pass) es) (sym c.enter-turn.ensures.found) c.enter-turn.ensures.seen;
+          done = subst (λ found. g.H.Turns.hears found c.args.session c.args.bytes.now c.args.now c.got_in-got.result.heard h.0) c.value.ensures.value h.1;
+          ends = subst (λ es. IsPrefix es (seen c.wake-pass.result)) (c.leave-pass.ensures.seen ∙ h.3) c.wake-pass.ensures.1;
+        },
+      );
+      took = c.settle.ensures.took;
+      first = prefix_trans (seen c.args.pass) (seen c.leave-pass.result) (seen c.wake-pass.result)
+          (seen_more g.H.Journaled.journal c.args.pass c.leave-pass.result (value_of c.enter-turn.result) c.got_in-got.new.held _ c.enter-turn.ensures.seen c.enter-turn.ensures.found
+          (subst (λ value. MayAdd (g.H.Journaled.journal value) (g.H.Journaled.journal c.got_in-got.new.held)) c.value.ensures.value c.got_in-got.ensures.grows) c.leave-pass.ensures.seen) c.wake-pass.ensures.1;
+      later = c.settle.ensures.follows.1;
+    }

@@ -2,7 +2,7 @@ use Rattle.std.proofs.Common.{sym, ap, subst}
 use Rattle.server_law.specs.Growth.{MayAdd}
 use Rattle.wire.specs.Parse.{IsParsed, parse_of}
 use Rattle.server_held.specs.Held.{server_waits}
-use Rattle.server_turns.proofs.shared.hear_in.Goals as goal
+use Rattle.server_turns.proofs.inside.hear_in.Goals as goal
 
 pub returns-clause-heard : goal.returns-clause-heard
 returns-clause-heard g c = λ is.

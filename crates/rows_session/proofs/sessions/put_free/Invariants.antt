@@ -1,5 +1,0 @@
-use Rattle.turn_post.specs.Passes.{IsPassOf}
-use Rattle.rows_session.proofs.sessions.put_free.Given as goal
-
-abbrev pub invariant-loop-at : goal.invariant-loop-at
-invariant-loop-at g l = IsPassOf l.shared.post l.pass

@@ -1,9 +1,0 @@
-use Rattle.std.proofs.Common.{sym, subst}
-use Rattle.server_law.specs.Growth.{MayAdd}
-use Rattle.server_turns.proofs.shared.got_in.Goals as goal
-
-pub returns-clause-heard : goal.returns-clause-heard
-returns-clause-heard g c = λ is. (c.hear_in-heard.new.held, c.hear_in-heard.ensures.heard is, c.answer_in-answer.ensures)
-
-pub returns-clause-grows : goal.returns-clause-grows
-returns-clause-grows g c = subst (λ es. MayAdd (g.H.Journaled.journal c.args.held.now) es) (sym c.answer_in-answer.ensures) c.hear_in-heard.ensures.grows
