@@ -3,16 +3,18 @@
 ghost use Rattle.std.specs.Prelude.{◌≤◌, length, IfOk};
 ghost use Rattle.limits.specs.declared.TheConstants.{FILE_MOST};
 
+use crate::left_over::clear_name;
 use command_text::parts::first_part;
 use lb_base::items::{Bytes, Items, Name};
 use lb_base::source::{ReadError, read_all};
 use lb_base::streams::StreamSource;
 use limits::FILE_MOST;
 use shell_walks::folder::{Folder, Folders, Kind, LocalFault};
+use shell_words::local::LocalPath;
 use std::alloc::{AllocError, Global};
 use std::fs::{Metadata, OpenFile, OpenOptions};
 use std::io::{ErrorKind, Write};
-use std::rt::Files as HostDisk;
+use std::rt::{Clock as HostTime, Files as HostDisk};
 use std::{fs, io};
 
 /// The most bytes that the names of a folder may have, each with a byte behind it.
@@ -147,7 +149,7 @@ fn beside(alloc: Global, target: &str, mark: u32, number: u32) -> Result<String,
         path.push_str(folder)?;
         path.push_str("/")?;
     }
-    let name = format!(in alloc; "~lbfs-{mark}-{number}")?;
+    let name = LocalPath::temporary(alloc, mark, number)?;
     path.push_str(name.as_str())?;
     Ok(path)
 }
@@ -240,7 +242,7 @@ impl<R> HostFolders<R> {
     }
 }
 
-impl<R: HostDisk + Copy> Folders for HostFolders<R> {
+impl<R: HostDisk + HostTime + Copy> Folders for HostFolders<R> {
     type F = HostFolder<R>;
 
     fn folder(&self, number: u32) -> HostFolder<R> {
@@ -248,7 +250,7 @@ impl<R: HostDisk + Copy> Folders for HostFolders<R> {
     }
 }
 
-impl<R: HostDisk> Folder for HostFolder<R> {
+impl<R: HostDisk + HostTime> Folder for HostFolder<R> {
     ghost finds = { λ _ _ _ _. Unit {0} };
 
     ghost reads = { λ _ _ _ _. Unit {0} };
@@ -260,6 +262,8 @@ impl<R: HostDisk> Folder for HostFolder<R> {
     ghost makes = { λ _ _ _ _. Unit {0} };
 
     ghost tries = { λ _ _ _ _. Unit {0} };
+
+    ghost clears = { λ _ _ _. Unit {0} };
 
     fn kind(&mut self, path: &str, follows: bool) -> Kind {
         let found = if follows {
@@ -279,6 +283,9 @@ impl<R: HostDisk> Folder for HostFolder<R> {
             Ok(facts) => facts,
             Err(error) => return Err(fault_of(&error)),
         };
+        if before.is_dir() {
+            return Err(LocalFault::IsFolder);
+        }
         let bytes = read_file(&self.rt, alloc, path)?;
         match self.rt.metadata(path) {
             Ok(after) if is_same(&before, &after) => Ok(bytes),
@@ -323,6 +330,14 @@ impl<R: HostDisk> Folder for HostFolder<R> {
         match fs::create_dir(&self.rt, path) {
             Ok(()) => Ok(()),
             Err(error) => Err(fault_of(&error)),
+        }
+    }
+
+    fn clear(&mut self, alloc: Global, path: &str) {
+        if let Ok(names) = self.names(alloc, path) {
+            for name in names.as_slice() {
+                clear_name(&self.rt, alloc, path, name.as_slice());
+            }
         }
     }
 }

@@ -6,6 +6,7 @@
 pub mod dialler;
 pub mod host_files;
 pub mod host_folder;
+mod left_over;
 pub mod notes;
 pub mod screen;
 pub mod serving;

@@ -2,12 +2,12 @@
 //! file or port, and the system's reason. All these words stand here. Nothing of it goes to standard
 //! output, and no contract speaks of it.
 
-use std::fmt::Display;
-use std::io;
+use std::fmt::{Debug, Display, Formatter};
+use std::{fmt, io};
 use thiserror::Error;
 
 /// What a person is told.
-#[derive(Debug, Drop, Error)]
+#[derive(Drop, Error)]
 pub enum Note<'a> {
     #[error("standard input can't be read: {0}")]
     Input(io::Error),
@@ -70,6 +70,13 @@ pub enum Note<'a> {
     Memory,
     #[error("no thread could be started")]
     NoThread,
+}
+
+// By hand, since a derived one would be as long as all these words, and nobody prints it.
+impl Debug for Note<'_> {
+    fn fmt<W: fmt::Write>(&self, f: &mut Formatter<W>) -> fmt::Result {
+        Display::fmt(self, f)
+    }
 }
 
 /// Tells it on standard error. Where that can't be written either nobody is there to be told.

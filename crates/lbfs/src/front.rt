@@ -9,6 +9,7 @@ use host::notes::{Note, tell};
 use host::screen::HostScreen;
 use host::streams::{ToldReader, ToldWriter};
 use host::time::{HostClock, HostPause};
+use lb_base::items::{Items, Name};
 use lb_base::streams::{StreamSink, StreamSource};
 use lbfs_shell::outside::Outside;
 use lbfs_shell::running::{ShellAsked, run_shell};
@@ -33,6 +34,27 @@ pub(crate) fn run_front<H: Threads + Wait + Sync>(
         Err(_) => ShellEnd::Memory,
     };
     ExitCode::from(end.code())
+}
+
+/// A shell whose one command is `help`, for which it dials nobody.
+fn help_options(alloc: Global) -> Result<ShellOptions, AllocError> {
+    let mut command = Items::new(alloc);
+    command.push(Name::copy_of(alloc, b"help")?)?;
+    Ok(ShellOptions {
+        port: 1,
+        links: 1,
+        cache: None,
+        quiet: true,
+        command,
+    })
+}
+
+/// `shell --help`: what `help` says.
+pub(crate) fn run_help<H: Threads + Wait + Sync>(handle: &H, rt: HostRuntime) -> ExitCode {
+    match help_options(rt.alloc()) {
+        Ok(options) => run_front(handle, rt, options),
+        Err(AllocError) => ExitCode::from(ShellEnd::Memory.code()),
+    }
 }
 
 /// The path of the cache file, where there is one.

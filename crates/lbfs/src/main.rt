@@ -11,7 +11,7 @@
 mod front;
 mod person;
 
-use crate::front::run_front;
+use crate::front::{run_front, run_help};
 use crate::person::shared_at;
 use exit_status::status::Status;
 use folder_store::folder::FolderStore;
@@ -276,6 +276,14 @@ fn run_others<H: Threads + Wait + Sync>(
     }
 }
 
+/// Whether the words ask what there is to type to a shell.
+fn asks_help(words: &[String]) -> bool {
+    match words {
+        [command, option] => command.as_str() == "shell" && option.as_str() == "--help",
+        _ => false,
+    }
+}
+
 /// Runs the words over the outside.
 fn main(rt: HostRuntime) -> ExitCode {
     let Ok(words) = given_words(&rt) else {
@@ -283,6 +291,9 @@ fn main(rt: HostRuntime) -> ExitCode {
     };
     let words = words.as_slice();
     let words = &words[words.len().min(1)..];
+    if asks_help(words) {
+        return run_help(&rt, rt);
+    }
     match front_of(rt.alloc(), words) {
         Ok(front) => run_others(&rt, rt, words, front),
         Err(AllocError) => starved(&rt),

@@ -53,10 +53,10 @@ files_text done left = decimal done ++ codes " of " ++ count_text (capped_sum do
 abbrev pub line_part : (wire spent : ℕ) → List ℕ
 line_part wire spent = size_text wire ++ codes " on the line, " ++ rate_text wire spent
 
--- where no byte has gone over the line for two seconds, what is asked for waits: a close does while another client's lease lasts
+-- where no byte has gone over the line for two seconds, what is asked for waits: a close does while another client's lease lasts, and first one that the run before may have granted
 abbrev pub pace_text : Glance → List ℕ
 pace_text g =
-    if nat_le 2000 g.still then codes "waiting for the server (another client's lease?)"
+    if nat_le 2000 g.still then codes "waiting for the server (another client's lease, or its own start?)"
     else line_part g.wire g.spent ++ left_text g.tally.files g.left g.spent
 
 -- in the place of the line that stands there, and with nothing behind it

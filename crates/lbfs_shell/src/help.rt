@@ -51,16 +51,17 @@ has nothing is fetched. Nothing is where LOCAL can't be written.
 const PUT: &str = "put [-r] LOCAL [PATH]
 Stores a file under PATH: in it where PATH is a directory; without PATH where
 the shell stands. The directories above it are made, where they aren't there.
-With -r a folder, with all that is in it, but for symbolic links, which are
-said. Of a file that is replaced nothing is fetched. Storing over a certain
-version alone (--if-version) isn't there yet.
+With -r a folder, with all that is in it, but for symbolic links and what a
+stopped get left, which are said. Of a file that is replaced nothing is
+fetched. Storing over a certain version alone (--if-version) isn't there yet.
 ";
 
 const SYNC: &str = "sync [--delete] LOCAL PATH
 Stores what differs, by content, in the folder LOCAL, so that the directory
 PATH has it all. With --delete what LOCAL hasn't is removed there. Each path
 that was stored, made or removed is said, unless the shell is --quiet. Symbolic
-links in the folder are said, and what has their names stays.
+links in the folder, and what a stopped get left, are said, and what has their
+names stays.
 ";
 
 const MKDIR: &str = "mkdir [-p] PATH

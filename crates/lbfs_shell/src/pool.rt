@@ -10,6 +10,7 @@ use shell_commands::visiting::Visited;
 use shell_walks::screen::Screen;
 use shell_walks::tasks::Task;
 use std::alloc::{AllocError, Global};
+use std::mem;
 use std::sync::{Condvar, Mutex, Wait};
 
 /// The tasks of a command.
@@ -104,7 +105,10 @@ impl Jobs {
             self.say(screen, visited.news.as_slice());
         }
         self.say(screen, visited.note.as_slice());
-        let Visited { more, is_off, .. } = visited;
+        let is_off = visited.is_off;
+        let mut visited = visited;
+        let more = mem::replace(&mut visited.more, Items::new(alloc));
+        drop(visited);
         self.add(more);
         if is_off || self.is_starved {
             self.give_up(alloc, screen);

@@ -157,7 +157,10 @@ fn pace_text(alloc: Global, glance: Glance) -> Result<Bytes, AllocError>
     ensures { IfOk result (λ text. text ≡ pace_text glance) }
 {
     if glance.still >= STILL {
-        return Items::copy_of(alloc, b"waiting for the server (another client's lease?)");
+        return Items::copy_of(
+            alloc,
+            b"waiting for the server (another client's lease, or its own start?)",
+        );
     }
     let mut out = line_part(alloc, glance.wire, glance.spent)?;
     let rest = left_text(alloc, glance.tally.files, glance.left, glance.spent)?;

@@ -8,9 +8,9 @@ ghost use Rattle.shell_commands.specs.Lines.{of_word, mistaken_as, operand_of, N
 use crate::doing::{is_dir_told, is_directory, made_told, make_all, move_to, on_path};
 use command_text::path::Path;
 use lb_base::items::{Items, Name};
-use shell_walks::asking::{Deed, ask_on};
+use shell_walks::asking::{Deed, ask_on, is_status};
 use shell_walks::folder::{Folder, Kind, LocalFault};
-use shell_walks::remote::{Answer, Remote, Why};
+use shell_walks::remote::{Answer, Remote};
 use shell_walks::tasks::{Storing, Task, longer};
 use shell_walks::telling::{
     fault_words, mistake_words, note_line, path_text, refused_told, why_of,
@@ -145,16 +145,25 @@ fn move_named<R: Remote>(
     }
 }
 
+/// The folder that a path of the host is in.
+fn folder_of(path: &str) -> &str {
+    match path.rsplit_once('/') {
+        Some((folder, _name)) => folder,
+        None => ".",
+    }
+}
+
 /// The directories above a path are made, where the last of them isn't there.
 fn make_way<R: Remote>(alloc: Global, remote: &mut R, path: &[Name]) -> Result<Told, AllocError> {
     if path.len() < 2 {
         return Ok(fine(alloc, Items::new(alloc)));
     }
     let above = &path[..path.len() - 1];
-    match ask_on(alloc, remote, Deed::Look, above)? {
-        Answer::Failed(Why::Refused(NOENT)) => make_all(alloc, remote, above),
-        _ => Ok(fine(alloc, Items::new(alloc))),
+    let looked = ask_on(alloc, remote, Deed::Look, above)?;
+    if is_status(&looked, NOENT) {
+        return make_all(alloc, remote, above);
     }
+    Ok(fine(alloc, Items::new(alloc)))
 }
 
 impl Shell {
@@ -248,7 +257,7 @@ impl Shell {
         }
     }
 
-    /// `get`.
+    /// `get`. From the folder that it is to write to goes what stopped fetches left.
     fn get<F: Folder>(
         &self,
         alloc: Global,
@@ -271,12 +280,15 @@ impl Shell {
             )?));
         }
         match self.local_target(alloc, host, word, last.as_slice())? {
-            NamedLocal::Path(local) => Ok(Went::Works(Task::Get {
-                path,
-                local,
-                deep,
-                id: None,
-            })),
+            NamedLocal::Path(local) => {
+                host.clear(alloc, folder_of(local.as_str()));
+                Ok(Went::Works(Task::Get {
+                    path,
+                    local,
+                    deep,
+                    id: None,
+                }))
+            }
             NamedLocal::Mistaken(told) => Ok(Went::Told(told)),
         }
     }

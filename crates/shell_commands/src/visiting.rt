@@ -1,5 +1,4 @@
-//! What a task does, and which tasks come from it. What it asks of the client are the walks of `storing`,
-//! `fetching` and `removing`; which tasks come of a folder, or of a directory, says `tasks`.
+//! What a task does, by the walks of `storing`, `fetching` and `removing`, and which tasks come from it (`tasks`).
 
 ghost use Rattle.std.specs.Prelude.{◌≡◌, ℕ, ◌≤◌, List, [], Bool, false, Option, length, IfOk, OnOk};
 ghost use Rattle.limits.specs.declared.TheConstants.{FILE_MOST};
@@ -28,7 +27,6 @@ use shell_words::quoting::quoted;
 use std::alloc::{AllocError, Global};
 
 /// What a task came to.
-#[derive(Drop)]
 pub struct Visited {
     /// The tasks that come from it.
     pub more: Items<Task>,
@@ -42,6 +40,23 @@ pub struct Visited {
     pub bytes: u64,
     /// Whether there is no connection, nor can one be had.
     pub is_off: bool,
+}
+
+// By hand: docs/proving/dropping.md.
+impl Drop for Visited {
+    fn drop(self) {
+        let Visited {
+            more,
+            note,
+            news,
+            files: _,
+            bytes: _,
+            is_off: _,
+        } = self;
+        drop(more);
+        drop(note);
+        drop(news);
+    }
 }
 
 /// NFS3ERR_NOTDIR, NFS3ERR_ISDIR.
@@ -146,8 +161,7 @@ fn faulty(alloc: Global, local: &str, fault: LocalFault) -> Result<Visited, Allo
     Ok(noted(alloc, note, false))
 }
 
-/// A copy of bytes that are to be compared is offered, where there is memory for one: what is written anew isn't
-/// fetched.
+/// A copy of bytes that are to be compared is offered, where there is memory for one.
 fn offer_copy<R: Remote>(alloc: Global, remote: &mut R, compared: bool, bytes: &[u8])
     requires { length bytes.now ≤ FILE_MOST }
     ensures { Offers R.offers remote.old compared bytes.now remote.new }
@@ -161,7 +175,7 @@ fn offer_copy<R: Remote>(alloc: Global, remote: &mut R, compared: bool, bytes: &
 
 /// The file that a fetch is to replace is offered.
 fn offer_local<R: Remote, F: Folder>(alloc: Global, remote: &mut R, folder: &mut F, local: &str)
-    ensures { Touches F.finds F.reads F.writes F.lists F.makes F.tries local.now folder.old folder.new }
+    ensures { Touches F.finds F.reads F.writes F.lists F.makes F.tries F.clears local.now folder.old folder.new }
 {
     if let Ok(bytes) = folder.read(alloc, local) {
         remote.offer(alloc, bytes);
@@ -285,7 +299,7 @@ fn put_file<R: Remote, F: Folder>(
 ) -> Result<Visited, AllocError>
     ensures come { IfOk result (λ v. AllCome (tasks.Put local.now path.now storing) v.more) }
     ensures counts { IfOk result (λ v. CountsRead R.asks R.content R.offers F.reads remote.old folder.old local.now path.now storing v.files remote.new folder.new) }
-    ensures touches { Touches F.finds F.reads F.writes F.lists F.makes F.tries local.now folder.old folder.new }
+    ensures touches { Touches F.finds F.reads F.writes F.lists F.makes F.tries F.clears local.now folder.old folder.new }
 {
     match folder.read(alloc, local) {
         Ok(bytes) => put_read(alloc, remote, local, path, storing, bytes),
@@ -378,8 +392,7 @@ fn put_over_unlisted(
     }
 }
 
-/// What is in a folder of the host, whose directory is there, is to be stored: where it is compared, the directory
-/// is listed first, so that each file is opened by its id.
+/// What is in a folder is to be stored: where it is compared, its directory is listed first, for the files' ids.
 fn put_within<R: Remote>(
     alloc: Global,
     remote: &mut R,
@@ -394,9 +407,10 @@ fn put_within<R: Remote>(
     if !is_compared(storing) {
         return put_names(alloc, local, path, storing, names);
     }
-    match ask_on(alloc, remote, Deed::List, path)? {
-        Answer::Names(listed) => put_over_listed(alloc, local, path, storing, names, &listed),
-        answer => put_over_unlisted(alloc, local, path, storing, names, why_of(&answer)),
+    let listing = ask_on(alloc, remote, Deed::List, path)?;
+    match &listing {
+        Answer::Names(listed) => put_over_listed(alloc, local, path, storing, names, listed),
+        other => put_over_unlisted(alloc, local, path, storing, names, why_of(other)),
     }
 }
 
@@ -410,20 +424,17 @@ fn with_news(visit: Visited, news: Bytes) -> Visited
     visit
 }
 
-/// What is in a directory that a listing told, where what is stored is compared.
+/// A directory that a listing told is listed, where what is stored is compared; else nothing is asked.
 fn listing_of<R: Remote>(
     alloc: Global,
     remote: &mut R,
     path: &[Name],
     storing: Storing,
-) -> Result<Option<Listed>, AllocError> {
+) -> Result<Answer, AllocError> {
     if storing.id.is_none() || !is_compared(storing) {
-        return Ok(None);
+        return Ok(Answer::Done);
     }
-    match ask_on(alloc, remote, Deed::List, path)? {
-        Answer::Names(listed) => Ok(Some(listed)),
-        _ => Ok(None),
-    }
+    ask_on(alloc, remote, Deed::List, path)
 }
 
 /// The directory of a folder is made, unless it is there, and then what is in it is to be stored.
@@ -438,13 +449,15 @@ fn put_listed<R: Remote>(
     ensures come { IfOk result (λ v. AllCome (tasks.Put local.now path.now storing) v.more) }
     ensures files { IfOk result (λ v. v.files ≡ 0) }
 {
-    if let Some(listed) = listing_of(alloc, remote, path, storing)? {
+    let listing = listing_of(alloc, remote, path, storing)?;
+    if let Answer::Names(listed) = &listing {
         let within = Storing {
             inner: true,
             ..storing
         };
-        return put_over_listed(alloc, local, path, within, names, &listed);
+        return put_over_listed(alloc, local, path, within, names, listed);
     }
+    drop(listing);
     let place = make_place_over(alloc, remote, path, storing.deletes)?;
     if let Place::None(why) = place {
         return refused(alloc, path, why);
@@ -469,7 +482,7 @@ fn put_folder<R: Remote, F: Folder>(
     storing: Storing,
 ) -> Result<Visited, AllocError>
     ensures come { IfOk result (λ v. AllCome (tasks.Put local.now path.now storing) v.more) }
-    ensures touches { Touches F.finds F.reads F.writes F.lists F.makes F.tries local.now folder.old folder.new }
+    ensures touches { Touches F.finds F.reads F.writes F.lists F.makes F.tries F.clears local.now folder.old folder.new }
     ensures files { IfOk result (λ v. v.files ≡ 0) }
 {
     if !storing.deep {
@@ -491,7 +504,7 @@ fn visit_put<R: Remote, F: Folder>(
     storing: Storing,
 ) -> Result<Visited, AllocError>
     ensures come { IfOk result (λ v. AllCome (tasks.Put local.now path.now storing) v.more) }
-    ensures touches { Touches F.finds F.reads F.writes F.lists F.makes F.tries local.now folder.old folder.new }
+    ensures touches { Touches F.finds F.reads F.writes F.lists F.makes F.tries F.clears local.now folder.old folder.new }
     ensures counts { IfOk result (λ v. CountsPut R.asks R.content R.offers F.reads remote.old local.now path.now storing v.files remote.new) }
 {
     match folder.kind(local, !storing.inner) {
@@ -506,7 +519,7 @@ fn visit_put<R: Remote, F: Folder>(
 
 /// A folder is there for a directory, or why there is none.
 fn make_local<F: Folder>(folder: &mut F, local: &str) -> Result<(), LocalFault>
-    ensures { Touches F.finds F.reads F.writes F.lists F.makes F.tries local.now folder.old folder.new }
+    ensures { Touches F.finds F.reads F.writes F.lists F.makes F.tries F.clears local.now folder.old folder.new }
 {
     match folder.make_folder(local) {
         Err(LocalFault::Exists) => match folder.kind(local, true) {
@@ -534,7 +547,7 @@ fn get_names(
     Ok(leads(alloc, more, note))
 }
 
-/// A directory is fetched that has these names: its folder first, then what is in it.
+/// A directory is fetched that has these names: its folder first, which is cleared, then what is in it.
 fn get_listed<F: Folder>(
     alloc: Global,
     folder: &mut F,
@@ -543,11 +556,14 @@ fn get_listed<F: Folder>(
     listed: &Listed,
 ) -> Result<Visited, AllocError>
     ensures come { (deep : Bool) (id : Option ℕ) → IfOk result (λ v. AllCome (tasks.Get path.now local.now deep id) v.more) }
-    ensures touches { Touches F.finds F.reads F.writes F.lists F.makes F.tries local.now folder.old folder.new }
+    ensures touches { Touches F.finds F.reads F.writes F.lists F.makes F.tries F.clears local.now folder.old folder.new }
     ensures files { IfOk result (λ v. v.files ≡ 0) }
 {
     match make_local(folder, local) {
-        Ok(()) => get_names(alloc, path, local, listed),
+        Ok(()) => {
+            folder.clear(alloc, local);
+            get_names(alloc, path, local, listed)
+        }
         Err(fault) => faulty(alloc, local, fault),
     }
 }
@@ -581,12 +597,13 @@ fn get_directory<R: Remote, F: Folder>(
     local: &str,
 ) -> Result<Visited, AllocError>
     ensures come { (deep : Bool) (id : Option ℕ) → IfOk result (λ v. AllCome (tasks.Get path.now local.now deep id) v.more) }
-    ensures touches { Touches F.finds F.reads F.writes F.lists F.makes F.tries local.now folder.old folder.new }
+    ensures touches { Touches F.finds F.reads F.writes F.lists F.makes F.tries F.clears local.now folder.old folder.new }
     ensures files { IfOk result (λ v. v.files ≡ 0) }
 {
-    match ask_on(alloc, remote, Deed::List, path)? {
-        Answer::Names(listed) => get_listed(alloc, folder, path, local, &listed),
-        answer => unlisted(alloc, remote, path, local, why_of(&answer)),
+    let listing = ask_on(alloc, remote, Deed::List, path)?;
+    match &listing {
+        Answer::Names(listed) => get_listed(alloc, folder, path, local, listed),
+        other => unlisted(alloc, remote, path, local, why_of(other)),
     }
 }
 
@@ -632,7 +649,7 @@ fn end_get<R: Remote, F: Folder>(
     got: Got,
 ) -> Result<Visited, AllocError>
     ensures come { (id : Option ℕ) → IfOk result (λ v. AllCome (tasks.Get path.now local.now deep id) v.more) }
-    ensures touches { Touches F.finds F.reads F.writes F.lists F.makes F.tries local.now folder.old folder.new }
+    ensures touches { Touches F.finds F.reads F.writes F.lists F.makes F.tries F.clears local.now folder.old folder.new }
     ensures ends { IfOk result (λ v. EndsGet path.now local.now got v) }
 {
     match got {
@@ -657,7 +674,7 @@ fn get_file<R: Remote, F: Folder>(
     deep: bool,
 ) -> Result<Visited, AllocError>
     ensures come { IfOk result (λ v. AllCome (tasks.Get path.now local.now deep id) v.more) }
-    ensures touches { OnOk result (Touches F.finds F.reads F.writes F.lists F.makes F.tries local.now folder.old folder.new) }
+    ensures touches { OnOk result (Touches F.finds F.reads F.writes F.lists F.makes F.tries F.clears local.now folder.old folder.new) }
     ensures counts { IfOk result (λ v. CountsGot R.asks R.content F.writes F.tries id path.now local.now v) }
 {
     let got = get(alloc, remote, folder, id, path, local)?;
@@ -675,7 +692,7 @@ fn get_over<R: Remote, F: Folder>(
     deep: bool,
 ) -> Result<Visited, AllocError>
     ensures come { IfOk result (λ v. AllCome (tasks.Get path.now local.now deep id) v.more) }
-    ensures touches { OnOk result (Touches F.finds F.reads F.writes F.lists F.makes F.tries local.now folder.old folder.new) }
+    ensures touches { OnOk result (Touches F.finds F.reads F.writes F.lists F.makes F.tries F.clears local.now folder.old folder.new) }
     ensures counts { IfOk result (λ v. CountsGot R.asks R.content F.writes F.tries id path.now local.now v) }
 {
     offer_local(alloc, remote, folder, local);
@@ -692,7 +709,7 @@ fn get_into<R: Remote, F: Folder>(
     deep: bool,
 ) -> Result<Visited, AllocError>
     ensures come { (id : Option ℕ) → IfOk result (λ v. AllCome (tasks.Get path.now local.now deep id) v.more) }
-    ensures touches { OnOk result (Touches F.finds F.reads F.writes F.lists F.makes F.tries local.now folder.old folder.new) }
+    ensures touches { OnOk result (Touches F.finds F.reads F.writes F.lists F.makes F.tries F.clears local.now folder.old folder.new) }
     ensures files { IfOk result (λ v. v.files ≡ 0) }
 {
     if deep {
@@ -712,7 +729,7 @@ fn visit_get<R: Remote, F: Folder>(
     deep: bool,
 ) -> Result<Visited, AllocError>
     ensures come { IfOk result (λ v. AllCome (tasks.Get path.now local.now deep id) v.more) }
-    ensures touches { OnOk result (Touches F.finds F.reads F.writes F.lists F.makes F.tries local.now folder.old folder.new) }
+    ensures touches { OnOk result (Touches F.finds F.reads F.writes F.lists F.makes F.tries F.clears local.now folder.old folder.new) }
     ensures counts { IfOk result (λ v. CountsGot R.asks R.content F.writes F.tries id path.now local.now v) }
 {
     if deep && path.is_empty() {
@@ -738,8 +755,8 @@ fn visit_removal<R: Remote>(
     Ok(with_news(leads(alloc, Items::new(alloc), note), news))
 }
 
-/// Does a task. What isn't done is said, and the others go on. Of the host's files it touches the path of the
-/// task alone; and the tasks that come of it are about names in that folder, each of which this host can have.
+/// Does a task. What isn't done is said. Of the host's files it touches the path of the task alone; and the tasks
+/// that come of it are about names in that folder, each of which goes between both.
 pub fn visit<R: Remote, F: Folder>(
     alloc: Global,
     remote: &mut R,
@@ -747,10 +764,10 @@ pub fn visit<R: Remote, F: Folder>(
     task: Task,
 ) -> Result<Visited, AllocError>
     ensures come { IfOk result (λ v. AllCome task v.more) }
-    ensures touches { OnOk result (TouchesFor F.finds F.reads F.writes F.lists F.makes F.tries task folder.old folder.new) }
+    ensures touches { OnOk result (TouchesFor F.finds F.reads F.writes F.lists F.makes F.tries F.clears task folder.old folder.new) }
     ensures counts { IfOk result (λ v. CountsFor R.asks R.content R.offers F.reads F.writes F.tries remote.old task v remote.new) }
 {
-    match task {
+    match &task {
         Task::Put {
             local,
             path,
@@ -761,7 +778,7 @@ pub fn visit<R: Remote, F: Folder>(
             folder,
             local.as_str(),
             path.as_slice(),
-            storing,
+            *storing,
         ),
         Task::Get {
             path,
@@ -772,10 +789,10 @@ pub fn visit<R: Remote, F: Folder>(
             alloc,
             remote,
             folder,
-            id,
+            *id,
             path.as_slice(),
             local.as_str(),
-            deep,
+            *deep,
         ),
         Task::Remove(path) => visit_removal(alloc, remote, path.as_slice()),
     }

@@ -1,5 +1,5 @@
 -- The commands of a client that stand for a path, and what asking for one comes to, over what a client does at any command (`asks`).
-use Rattle.std.specs.Prelude.{◌≡◌, ℕ, ◌==◌, ◌&&◌, List, Bool, true, false, length, nat_lt, Option, Some, None, if◌then◌else◌}
+use Rattle.std.specs.Prelude.{◌≡◌, ℕ, ◌==◌, ◌&&◌, List, Bool, true, false, length, nat_lt, Option, Some, None, Result, Ok, Err, if◌then◌else◌}
 use Rattle.command_text.specs.Paths.{spot_at}
 use Rattle.command_text.specs.declared.command.Command.{Command}
 use Rattle.command_text.specs.declared.command.Command.TheVariants.{Named, Open}
@@ -20,24 +20,28 @@ command_at deed.Remove path = Named (paths.Remove (spot_at path))
 command_at deed.RemoveDir path = Named (paths.RemoveDir (spot_at path))
 command_at deed.List path = Named (paths.List path)
 
--- the root can be looked at and listed
-abbrev pub on_root : Deed → List (List ℕ) → Option Command
-on_root deed.Look path = Some (Named paths.LookRoot)
-on_root deed.List path = Some (Named (paths.List path))
-on_root d path = None
+-- the root can be looked at and listed; it is a directory (NFS3ERR_ISDIR), is there (NFS3ERR_EXIST), and stays
+abbrev pub on_root : Deed → List (List ℕ) → Result Command Why
+on_root deed.Look path = Ok (Named paths.LookRoot)
+on_root deed.List path = Ok (Named (paths.List path))
+on_root deed.Find path = Err (why.Refused 21)
+on_root deed.Make path = Err (why.Refused 17)
+on_root deed.MakeDir path = Err (why.Refused 17)
+on_root deed.Remove path = Err why.Root
+on_root deed.RemoveDir path = Err why.Root
 
-abbrev pub command_on : Deed → List (List ℕ) → Option Command
-command_on d path = if nat_lt 0 (length path) then Some (command_at d path) else on_root d path
+abbrev pub command_on : Deed → List (List ℕ) → Result Command Why
+command_on d path = if nat_lt 0 (length path) then Ok (command_at d path) else on_root d path
 
-abbrev pub rename_of : List (List ℕ) → List (List ℕ) → Option Command
+abbrev pub rename_of : List (List ℕ) → List (List ℕ) → Result Command Why
 rename_of from to =
-    if nat_lt 0 (length from) && nat_lt 0 (length to) then Some (Named (paths.Rename (spot_at from) (spot_at to)))
-    else None
+    if nat_lt 0 (length from) && nat_lt 0 (length to) then Ok (Named (paths.Rename (spot_at from) (spot_at to)))
+    else Err why.Root
 
 -- a command is asked for; where there is none, nothing is
-abbrev pub AsksOn : {R : Type 0} → (asks : R → Command → Answer → R → Type 0) → R → Option Command → Answer → R → Type 0
-AsksOn asks old (Some c) a new = asks old c a new
-AsksOn asks old None a new = (new ≡ old) × (a ≡ answer.Failed (why.Refused 22))
+abbrev pub AsksOn : {R : Type 0} → (asks : R → Command → Answer → R → Type 0) → R → Result Command Why → Answer → R → Type 0
+AsksOn asks old (Ok c) a new = asks old c a new
+AsksOn asks old (Err w) a new = (new ≡ old) × (a ≡ answer.Failed w)
 
 -- ---- a file that is opened, with its content
 

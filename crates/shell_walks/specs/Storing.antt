@@ -52,9 +52,13 @@ renewed_as file answer.Done = answer.Opened file
 renewed_as file a = failed_as a
 
 -- the storing of a file that was made: where that failed, the file may stay
-abbrev pub made_as : Answer → Answer
-made_as (answer.Failed w) = answer.Left w
-made_as a = a
+abbrev pub failure_of : Answer → Option Why
+failure_of (answer.Failed w) = Some w
+failure_of a = None
+
+abbrev pub made_as : Option Why → Answer → Answer
+made_as (Some w) a = answer.Left w
+made_as None a = a
 
 -- ---- an open file
 
@@ -138,7 +142,7 @@ pub record StoresMade {R : Type 0} (asks : R → Command → Answer → R → Ty
   pub opens : RenewsId asks old file opened between
   pub stored : Answer
   pub goes_on : StoresIf asks between (opened_file opened) bytes opened stored new
-  pub told : a ≡ made_as stored
+  pub told : a ≡ made_as (failure_of stored) stored
 
 abbrev pub MakesElse : {R : Type 0} → (asks : R → Command → Answer → R → Type 0) → R → (may_store : Bool) → List (List ℕ) → List ℕ → (made a : Answer) → R → Type 0
 MakesElse asks old true path bytes made a new = StoresAt asks old path bytes a new

@@ -29,7 +29,7 @@ status_words n =
     else if n == 17 then codes "it is there already"
     else if n == 20 then codes "not a directory"
     else if n == 21 then codes "it is a directory"
-    else if n == 22 then codes "no directory can go into itself, and the root is there and stays"
+    else if n == 22 then codes "no directory can go into itself"
     else if n == 27 then codes "the file is too large (64 MiB are the most)"
     else if n == 28 then codes "the server has no more room"
     else if n == 63 then codes "the name is too long"
@@ -53,6 +53,7 @@ why_text why.NoLink = codes "no server answers (is lbfs share, or ssh -L, runnin
 why_text (why.Refused n) = status_text n
 why_text why.PeerMemory = codes "the server has no memory left"
 why_text (why.BadPeer n) = codes "the server broke the protocol, or is no lbfs share (" ++ decimal n ++ codes ")"
+why_text why.Root = codes "the root is there and stays"
 why_text why.Memory = codes "no memory is left"
 
 abbrev pub fault_text : LocalFault → List ℕ
@@ -69,6 +70,7 @@ fault_text fault.BadName = codes "no file here can have this name"
 fault_text fault.NotText = codes "a name here has to be UTF-8 for this program"
 fault_text fault.Link = codes "it is a symbolic link in a folder, and isn't followed"
 fault_text fault.Odd = codes "it is neither a file nor a folder here"
+fault_text fault.LeftOver = codes "passed over: a get that is stopped leaves such names"
 fault_text fault.Changed = codes "it changed here while it was read"
 fault_text fault.Failed = codes "the system failed here"
 fault_text fault.Memory = codes "no memory is left"

@@ -30,8 +30,10 @@ pub enum Deed {
     List,
 }
 
-/// The status of what can't be done with the root: NFS3ERR_INVAL.
-const INVAL: u32 = 22;
+/// The statuses of a file that would have the root's place: NFS3ERR_EXIST, NFS3ERR_ISDIR.
+const EXIST: u32 = 17;
+
+const ISDIR: u32 = 21;
 
 /// The status of an id that nothing has any more: NFS3ERR_STALE.
 const STALE: u32 = 70;
@@ -62,17 +64,19 @@ fn command_at(deed: Deed, path: Path) -> Command
     })
 }
 
-/// The command on a path, where there is one.
-fn command_on(deed: Deed, path: Path) -> Option<Command>
+/// The command on a path, or why there is none.
+fn command_on(deed: Deed, path: Path) -> Result<Command, Why>
     ensures { result ≡ command_on deed path }
 {
     if path.len() > 0 {
-        return Some(command_at(deed, path));
+        return Ok(command_at(deed, path));
     }
     match deed {
-        Deed::Look => Some(Command::Named(PathCommand::LookRoot)),
-        Deed::List => Some(Command::Named(PathCommand::List(path))),
-        _ => None,
+        Deed::Look => Ok(Command::Named(PathCommand::LookRoot)),
+        Deed::List => Ok(Command::Named(PathCommand::List(path))),
+        Deed::Find => Err(Why::Refused(ISDIR)),
+        Deed::Make | Deed::MakeDir => Err(Why::Refused(EXIST)),
+        Deed::Remove | Deed::RemoveDir => Err(Why::Root),
     }
 }
 
@@ -87,8 +91,8 @@ pub fn ask_on<R: Remote>(
 {
     let path = copy_of(alloc, path)?;
     match command_on(deed, path) {
-        Some(command) => Ok(remote.ask(alloc, command)),
-        None => Ok(Answer::Failed(Why::Refused(INVAL))),
+        Ok(command) => Ok(remote.ask(alloc, command)),
+        Err(why) => Ok(Answer::Failed(why)),
     }
 }
 
@@ -147,14 +151,14 @@ pub fn open<R: Remote>(
     }
 }
 
-/// The command that gives one path's file or directory another.
-fn rename_of(from: Path, to: Path) -> Option<Command>
+/// The command that gives one path's file or directory another, or why there is none.
+fn rename_of(from: Path, to: Path) -> Result<Command, Why>
     ensures { result ≡ rename_of from to }
 {
     if from.len() > 0 && to.len() > 0 {
-        Some(Command::Named(PathCommand::Rename(spot_at(from), spot_at(to))))
+        Ok(Command::Named(PathCommand::Rename(spot_at(from), spot_at(to))))
     } else {
-        None
+        Err(Why::Root)
     }
 }
 
@@ -170,7 +174,7 @@ pub fn ask_rename<R: Remote>(
     let from = copy_of(alloc, from)?;
     let to = copy_of(alloc, to)?;
     match rename_of(from, to) {
-        Some(command) => Ok(remote.ask(alloc, command)),
-        None => Ok(Answer::Failed(Why::Refused(INVAL))),
+        Ok(command) => Ok(remote.ask(alloc, command)),
+        Err(why) => Ok(Answer::Failed(why)),
     }
 }

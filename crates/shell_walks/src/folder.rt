@@ -37,6 +37,8 @@ pub enum LocalFault {
     Link,
     /// It is neither a file nor a folder.
     Odd,
+    /// Its name is of the form that a stopped fetch leaves, and so it goes nowhere.
+    LeftOver,
     /// It changed while it was read.
     Changed,
     /// The system failed otherwise.
@@ -78,6 +80,9 @@ pub trait Folder {
     /// What a trial whether a file can be written may come to.
     ghost tries: { Self → List ℕ → Result Unit LocalFault → Self → Type 0 };
 
+    /// What the clearing of a folder may leave.
+    ghost clears: { Self → List ℕ → Self → Type 0 };
+
     /// What a path stands for. Where links are followed, a symbolic link stands for what it leads to.
     fn kind(&mut self, path: &str, follows: bool) -> Kind
         ensures { finds self.old path.now result self.new };
@@ -104,6 +109,11 @@ pub trait Folder {
     /// Makes a folder. `Exists` comes where something has the name already.
     fn make_folder(&mut self, path: &str) -> Result<(), LocalFault>
         ensures { makes self.old path.now result self.new };
+
+    /// Removes from a folder the files that stopped fetches left in it: those that were being written (`is_temporary`
+    /// of their names) by a process that isn't there any more. Where that can't be told, or done, they stay.
+    fn clear(&mut self, alloc: Global, path: &str)
+        ensures { clears self.old path.now self.new };
 }
 
 /// What gives each thread the host's files.

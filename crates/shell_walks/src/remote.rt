@@ -30,6 +30,8 @@ pub enum Why {
     PeerMemory,
     /// The other end broke the protocol; the number says how.
     BadPeer(u32),
+    /// It is the root, which has no other name, and stays.
+    Root,
     /// Memory ran out.
     Memory,
 }
@@ -48,7 +50,6 @@ pub struct Seen {
 }
 
 /// What a listing told of a directory.
-#[derive(Drop)]
 pub struct Listed {
     /// Its names, in its order.
     pub names: Items<Name>,
@@ -56,8 +57,16 @@ pub struct Listed {
     pub ids: Items<u64>,
 }
 
+// By hand: docs/proving/dropping.md.
+impl Drop for Listed {
+    fn drop(self) {
+        let Listed { names, ids } = self;
+        drop(names);
+        drop(ids);
+    }
+}
+
 /// How a command ended.
-#[derive(Drop)]
 pub enum Answer {
     /// It was done, and has nothing to tell.
     Done,
@@ -75,6 +84,22 @@ pub enum Answer {
     Failed(Why),
     /// It wasn't stored, but a file was made for it, which may stay, without bytes.
     Left(Why),
+}
+
+// By hand: docs/proving/dropping.md.
+impl Drop for Answer {
+    fn drop(self) {
+        match self {
+            Answer::Names(listed) => drop(listed),
+            Answer::Done
+            | Answer::Made(_)
+            | Answer::Opened(_)
+            | Answer::Closed(_)
+            | Answer::Seen(_)
+            | Answer::Failed(_)
+            | Answer::Left(_) => {}
+        }
+    }
 }
 
 /// A client that is asked one command after the other.

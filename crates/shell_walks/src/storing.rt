@@ -2,7 +2,7 @@
 
 ghost use Rattle.std.specs.Prelude.{◌≡◌, ◌∷◌, [], IfOk, bytes_eq};
 ghost use Rattle.command_text.specs.declared.content.Part.TheVariants as part;
-ghost use Rattle.shell_walks.specs.Storing.{is_done, is_closed, made_file, opened_file, failed_as, closed_as, left_as, renewed_as, made_as, Replaces, Abandons, Stores, StoresIf, RenewsId, RenewsIf};
+ghost use Rattle.shell_walks.specs.Storing.{is_done, is_closed, made_file, opened_file, failed_as, failure_of, closed_as, left_as, renewed_as, made_as, Replaces, Abandons, Stores, StoresIf, RenewsId, RenewsIf};
 ghost use Rattle.shell_walks.specs.Storing.{RenewsSeen, Renews, StoresAt, StoresMade, is_missing, may_store, MakesElse, Makes, StoresChanged, PutsOpen, MakesUnless, Opens, Puts};
 
 use crate::asking::{Deed, ask_on, open};
@@ -61,9 +61,9 @@ fn failed_as(answer: &Answer) -> Answer
 fn closed_as(answer: Answer) -> Answer
     ensures { result ≡ closed_as answer }
 {
-    match answer {
-        Answer::Closed(version) => Answer::Closed(version),
-        answer => failed_as(&answer),
+    match &answer {
+        Answer::Closed(version) => Answer::Closed(*version),
+        other => failed_as(other),
     }
 }
 
@@ -71,9 +71,9 @@ fn closed_as(answer: Answer) -> Answer
 fn left_as(answer: Answer) -> Answer
     ensures { result ≡ left_as answer }
 {
-    match answer {
+    match &answer {
         Answer::Done => Answer::Done,
-        answer => failed_as(&answer),
+        other => failed_as(other),
     }
 }
 
@@ -81,19 +81,29 @@ fn left_as(answer: Answer) -> Answer
 fn renewed_as(file: u64, answer: Answer) -> Answer
     ensures { result ≡ renewed_as file answer }
 {
-    match answer {
+    match &answer {
         Answer::Done => Answer::Opened(file),
-        answer => failed_as(&answer),
+        other => failed_as(other),
+    }
+}
+
+/// Why a command failed, if it did.
+fn failure_of(answer: &Answer) -> Option<Why>
+    ensures { result ≡ failure_of answer.now }
+{
+    match answer {
+        Answer::Failed(why) => Some(*why),
+        _ => None,
     }
 }
 
 /// What is told of the storing of a file that was made: where that failed, the file may stay.
 fn made_as(answer: Answer) -> Answer
-    ensures { result ≡ made_as answer }
+    ensures { result ≡ made_as (failure_of answer) answer }
 {
-    match answer {
-        Answer::Failed(why) => Answer::Left(why),
-        answer => answer,
+    match failure_of(&answer) {
+        Some(why) => Answer::Left(why),
+        None => answer,
     }
 }
 
@@ -174,9 +184,9 @@ fn renew_seen<R: Remote>(alloc: Global, remote: &mut R, seen: Seen) -> Answer
 fn renew_looked<R: Remote>(alloc: Global, remote: &mut R, looked: Answer) -> Answer
     ensures { RenewsSeen R.asks remote.old looked result remote.new }
 {
-    match looked {
-        Answer::Seen(seen) => renew_seen(alloc, remote, seen),
-        looked => failed_as(&looked),
+    match &looked {
+        Answer::Seen(seen) => renew_seen(alloc, remote, *seen),
+        other => failed_as(other),
     }
 }
 

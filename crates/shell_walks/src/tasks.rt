@@ -2,14 +2,15 @@
 //! come from it. `specs/Tasks.antt` says which.
 
 ghost use Rattle.std.specs.Prelude.{◌≡◌, ◌++◌, ◌∷◌, [], IfOk, OnOk, slice_get};
-ghost use Rattle.shell_walks.specs.Tasks.{unlisted, known, put_more, put_tasks, put_known, get_more, get_tasks, is_among, remove_more, removals};
+ghost use Rattle.shell_walks.specs.Tasks.{unlisted, known, put_more, put_tasks, put_known, get_more, get_tasks, is_among, remove_more, removals, stays_there};
 
 use crate::remote::Listed;
 use command_text::path::Path;
 use command_text::words::is;
 use lb_base::items::{Items, Name};
-use shell_words::local::{LocalPath, local_name};
+use shell_words::local::LocalPath;
 use shell_words::path::copy_of;
+use shell_words::temporary::{carried_name, is_temporary};
 use std::alloc::{AllocError, Global};
 
 /// How things are stored.
@@ -30,7 +31,6 @@ pub struct Storing {
 }
 
 /// A task.
-#[derive(Drop)]
 pub enum Task {
     /// A file or a folder of the host is stored under a path.
     Put {
@@ -50,6 +50,32 @@ pub enum Task {
     Remove(Path),
 }
 
+// By hand: docs/proving/dropping.md.
+impl Drop for Task {
+    fn drop(self) {
+        match self {
+            Task::Put {
+                local,
+                path,
+                storing: _,
+            } => {
+                drop(local);
+                drop(path);
+            }
+            Task::Get {
+                path,
+                local,
+                deep: _,
+                id: _,
+            } => {
+                drop(path);
+                drop(local);
+            }
+            Task::Remove(path) => drop(path),
+        }
+    }
+}
+
 /// A path with a name more.
 pub fn longer(alloc: Global, path: &[Name], name: &[u8]) -> Result<Path, AllocError>
     ensures { IfOk result (λ more. more ≡ path.now ++ name.now ∷ []) }
@@ -59,8 +85,8 @@ pub fn longer(alloc: Global, path: &[Name], name: &[u8]) -> Result<Path, AllocEr
     Ok(more)
 }
 
-/// The task of a name in a folder that is stored goes behind those that there are, where this host can
-/// have the name.
+/// The task of a name in a folder that is stored goes behind those that there are, where the name goes to a
+/// server.
 fn put_more(
     alloc: Global,
     tasks: &mut Items<Task>,
@@ -71,7 +97,7 @@ fn put_more(
 ) -> Result<(), AllocError>
     ensures { OnOk result (tasks.new ≡ tasks.old ++ put_more local.now path.now storing name.now) }
 {
-    match local_name(name) {
+    match carried_name(name) {
         Some(text) => {
             let local = LocalPath::below(alloc, local, text)?;
             let path = longer(alloc, path, name)?;
@@ -166,8 +192,8 @@ pub fn put_known(
     Ok(tasks)
 }
 
-/// The task of a name in a directory that is fetched goes behind those that there are, where this host
-/// can have the name.
+/// The task of a name in a directory that is fetched goes behind those that there are, where this host can have
+/// the name, and has it for nothing that is being written.
 fn get_more(
     alloc: Global,
     tasks: &mut Items<Task>,
@@ -178,7 +204,7 @@ fn get_more(
 ) -> Result<(), AllocError>
     ensures { OnOk result (tasks.new ≡ tasks.old ++ get_more path.now local.now id name.now) }
 {
-    match local_name(name) {
+    match carried_name(name) {
         Some(text) => {
             let path = longer(alloc, path, name)?;
             let local = LocalPath::below(alloc, local, text)?;
@@ -230,7 +256,14 @@ fn is_among(name: &[u8], names: &[Name]) -> bool
     false
 }
 
-/// The task that removes what has a name, where the folder hasn't it, goes behind those that there are.
+/// Whether what has a name stays: the folder has it too, or it is one that wouldn't have been stored from there.
+fn stays_there(held: &[Name], name: &[u8]) -> bool
+    ensures { result ≡ stays_there held.now name.now }
+{
+    is_among(name, held) || is_temporary(name)
+}
+
+/// The task that removes what has a name, unless that stays, goes behind those that there are.
 fn remove_more(
     alloc: Global,
     tasks: &mut Items<Task>,
@@ -240,14 +273,15 @@ fn remove_more(
 ) -> Result<(), AllocError>
     ensures { OnOk result (tasks.new ≡ tasks.old ++ remove_more path.now held.now name.now) }
 {
-    if is_among(name, held) {
+    if stays_there(held, name) {
         return Ok(());
     }
     tasks.push(Task::Remove(longer(alloc, path, name)?))?;
     Ok(())
 }
 
-/// The tasks that remove what a folder hasn't: those of the directory's names that are none of these.
+/// The tasks that remove what a folder hasn't: those of the directory's names that are none of these, nor of the
+/// form that a stopped fetch leaves.
 pub fn put_removals(
     alloc: Global,
     tasks: &mut Items<Task>,

@@ -44,7 +44,7 @@ fn status_words(status: u32) -> &'static [u8]
         17 => b"it is there already",
         20 => b"not a directory",
         21 => b"it is a directory",
-        22 => b"no directory can go into itself, and the root is there and stays",
+        22 => b"no directory can go into itself",
         27 => b"the file is too large (64 MiB are the most)",
         28 => b"the server has no more room",
         63 => b"the name is too long",
@@ -115,6 +115,7 @@ pub fn put_why(alloc: Global, out: &mut Bytes, why: Why) -> Result<(), AllocErro
         Why::Refused(status) => put_status(alloc, out, status),
         Why::PeerMemory => out.extend_from_slice(b"the server has no memory left"),
         Why::BadPeer(fault) => put_bad_peer(alloc, out, fault),
+        Why::Root => out.extend_from_slice(b"the root is there and stays"),
         Why::Memory => out.extend_from_slice(b"no memory is left"),
     }
 }
@@ -137,6 +138,7 @@ pub fn fault_words(fault: LocalFault) -> &'static [u8]
         LocalFault::NotText => b"a name here has to be UTF-8 for this program",
         LocalFault::Link => b"it is a symbolic link in a folder, and isn't followed",
         LocalFault::Odd => b"it is neither a file nor a folder here",
+        LocalFault::LeftOver => b"passed over: a get that is stopped leaves such names",
         LocalFault::Changed => b"it changed here while it was read",
         LocalFault::Failed => b"the system failed here",
         LocalFault::Memory => b"no memory is left",

@@ -7,12 +7,20 @@ use lb_base::items::{Bytes, Items};
 use std::alloc::{AllocError, Global};
 
 /// What a command comes to.
-#[derive(Drop)]
 pub struct Told {
     /// What is written.
     pub text: Bytes,
     /// What is said of it beside that, on standard error: why it wasn't done.
     pub note: Bytes,
+}
+
+// By hand: docs/proving/dropping.md.
+impl Drop for Told {
+    fn drop(self) {
+        let Told { text, note } = self;
+        drop(text);
+        drop(note);
+    }
 }
 
 impl Told {

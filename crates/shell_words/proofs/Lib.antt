@@ -1,3 +1,4 @@
 pub mod Again
+pub mod Made
 pub mod Texts
 pub mod lemmas

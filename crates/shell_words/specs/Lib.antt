@@ -4,4 +4,5 @@ pub mod Giving
 pub mod Local
 pub mod Paths
 pub mod Quoting
+pub mod Temporary
 pub mod Words

@@ -13,4 +13,5 @@ pub mod mistake;
 pub mod path;
 pub mod quoting;
 pub mod reading;
+pub mod temporary;
 pub mod words;

@@ -7,9 +7,11 @@ ghost use Rattle.std.specs.List.{list_any};
 ghost use Rattle.std.specs.Str.{is_utf8};
 ghost use Rattle.shell_words.specs.Local.{is_parting, is_component, is_local, below, local_path};
 ghost use Rattle.shell_words.specs.Paths.{is_absolute};
+ghost use Rattle.shell_words.specs.Temporary.{temporary};
 
 use command_text::words::is;
 use std::alloc::{AllocError, Global};
+use std::fmt::Write;
 use std::marker::Model;
 
 /// Whether a byte parts components, or ends a path.
@@ -86,6 +88,15 @@ impl LocalPath {
         ensures { IfOk result (λ path. path ≡ text.now) }
     {
         let text = String::from_str(alloc, text)?;
+        Ok(LocalPath { text })
+    }
+
+    /// The name of a file that is being written, in its folder: no other thread's, nor another process's.
+    pub fn temporary(alloc: Global, process: u32, thread: u32) -> Result<LocalPath, AllocError>
+        ensures { IfOk result (λ path. path ≡ temporary process thread) }
+    {
+        let mut text = String::new(alloc);
+        write!(text, "~lbfs-{process}-{thread}")?;
         Ok(LocalPath { text })
     }
 
