@@ -1,4 +1,5 @@
 pub mod Counting
 pub mod Lined
+pub mod Sparing
 pub mod Touching
 pub mod Walking

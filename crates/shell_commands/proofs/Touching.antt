@@ -1,5 +1,5 @@
 -- What tasks leave alone, and which come of them.
-use Rattle.std.proofs.Common.{◌≡◌, ◌⊎◌, refl, sym, subst, ap, ◌∙◌, ℕ, ◌+◌, List, [], ◌∷◌, ◌++◌, slice_get, Bool, true, false, cond, Option, Some, None, Result, Ok, Err, OnOk, inl, inr, ◌||◌}
+use Rattle.std.proofs.Common.{◌≡◌, ◌⊎◌, refl, sym, subst, ap, ◌∙◌, ℕ, ◌+◌, List, [], ◌∷◌, ◌++◌, slice_get, Bool, true, false, cond, bytes_eq, Option, Some, None, Result, Ok, Err, OnOk, inl, inr, ◌||◌}
 use Rattle.command_text.specs.declared.command.Command.{Command}
 use Rattle.shell_words.specs.Local.{below}
 use Rattle.shell_words.specs.Temporary.{is_carried, is_temporary}
@@ -22,17 +22,26 @@ pub join : (t : Task) (xs ys : List Task) → AllCome t xs → AllCome t ys → 
 join t [] ys h k = k
 join t (x ∷ xs) ys h k = (h.0, join t xs ys h.1 k)
 
-put_of : (local : List ℕ) (path : List (List ℕ)) (s s' : Storing) (name : List ℕ) (b : Bool) → is_carried name ≡ b → AllCome (task.Put local path s) (cond b (task.Put (below local name) (path ++ name ∷ []) s' ∷ []) [])
-put_of local path s s' name true is = (inr (name, is, refl, refl), tt)
-put_of local path s s' name false is = tt
+put_of : (local : List ℕ) (path : List (List ℕ)) (s s' : Storing) (name : List ℕ) (b : Bool) → (s'.deletes ≡ true → s.deletes ≡ true) → is_carried name ≡ b → AllCome (task.Put local path s) (cond b (task.Put (below local name) (path ++ name ∷ []) s' ∷ []) [])
+put_of local path s s' name true may is = ((may, inr (name, is, refl, refl)), tt)
+put_of local path s s' name false may is = tt
 
-pub puts_come : (local : List ℕ) (path : List (List ℕ)) (s s' : Storing) (names : List (List ℕ)) → AllCome (task.Put local path s) (put_tasks local path s' names)
-puts_come local path s s' [] = tt
-puts_come local path s s' (name ∷ names) = join (task.Put local path s) (put_more local path (unlisted s') name) (put_tasks local path s' names) (put_of local path s (unlisted s') name (is_carried name) refl) (puts_come local path s s' names)
+pub puts_come : (local : List ℕ) (path : List (List ℕ)) (s s' : Storing) → (s'.deletes ≡ true → s.deletes ≡ true) → (names : List (List ℕ)) → AllCome (task.Put local path s) (put_tasks local path s' names)
+puts_come local path s s' may [] = tt
+puts_come local path s s' may (name ∷ names) = join (task.Put local path s) (put_more local path (unlisted s') name) (put_tasks local path s' names) (put_of local path s (unlisted s') name (is_carried name) may refl) (puts_come local path s s' may names)
 
-pub known_come : (local : List ℕ) (path : List (List ℕ)) (s s' : Storing) (l : Listed) (names : List (List ℕ)) → AllCome (task.Put local path s) (put_known local path s' l names)
-known_come local path s s' l [] = tt
-known_come local path s s' l (name ∷ names) = join (task.Put local path s) (put_more local path (known s' l.ids 0 l.names name) name) (put_known local path s' l names) (put_of local path s (known s' l.ids 0 l.names name) name (is_carried name) refl) (known_come local path s s' l names)
+known_if : (s k : Storing) (id : Option ℕ) (b : Bool) → k.deletes ≡ s.deletes → (cond b (record s { id = id }) k).deletes ≡ s.deletes
+known_if s k id true is = refl
+known_if s k id false is = is
+
+-- what a listing tells changes nothing of what may go
+known_spares : (s : Storing) (ids : List ℕ) (at : ℕ) (names : List (List ℕ)) (name : List ℕ) → (known s ids at names name).deletes ≡ s.deletes
+known_spares s ids at [] name = refl
+known_spares s ids at (other ∷ names) name = known_if s (known s ids (at + 1) names name) (slice_get ids at) (bytes_eq other name) (known_spares s ids (at + 1) names name)
+
+pub known_come : (local : List ℕ) (path : List (List ℕ)) (s s' : Storing) → (s'.deletes ≡ true → s.deletes ≡ true) → (l : Listed) (names : List (List ℕ)) → AllCome (task.Put local path s) (put_known local path s' l names)
+known_come local path s s' may l [] = tt
+known_come local path s s' may l (name ∷ names) = join (task.Put local path s) (put_more local path (known s' l.ids 0 l.names name) name) (put_known local path s' l names) (put_of local path s (known s' l.ids 0 l.names name) name (is_carried name) (λ e. may (sym (known_spares s' l.ids 0 l.names name) ∙ e)) refl) (known_come local path s s' may l names)
 
 get_of : (path : List (List ℕ)) (local : List ℕ) (deep : Bool) (id old : Option ℕ) (name : List ℕ) (b : Bool) → is_carried name ≡ b → AllCome (task.Get path local deep old) (cond b (task.Get (path ++ name ∷ []) (below local name) true id ∷ []) [])
 get_of path local deep id old name true is = ((name, is, refl, refl), tt)
@@ -42,14 +51,14 @@ pub gets_come : (path : List (List ℕ)) (local : List ℕ) (deep : Bool) (old :
 gets_come path local deep old ids at [] = tt
 gets_come path local deep old ids at (name ∷ names) = join (task.Get path local deep old) (get_more path local (slice_get ids at) name) (get_tasks path local ids (at + 1) names) (get_of path local deep (slice_get ids at) old name (is_carried name) refl) (gets_come path local deep old ids (at + 1) names)
 
-removal_of : (local : List ℕ) (path : List (List ℕ)) (s : Storing) (name : List ℕ) (a b : Bool) → is_temporary name ≡ b → AllCome (task.Put local path s) (cond (a || b) [] (task.Remove (path ++ name ∷ []) ∷ []))
-removal_of local path s name true b is = tt
-removal_of local path s name false true is = tt
-removal_of local path s name false false is = ((name, is, refl), tt)
+removal_of : (local : List ℕ) (path : List (List ℕ)) (s : Storing) (name : List ℕ) (a b : Bool) → s.deletes ≡ true → is_temporary name ≡ b → AllCome (task.Put local path s) (cond (a || b) [] (task.Remove (path ++ name ∷ []) ∷ []))
+removal_of local path s name true b may is = tt
+removal_of local path s name false true may is = tt
+removal_of local path s name false false may is = ((may, name, is, refl), tt)
 
-pub removals_come : (local : List ℕ) (path : List (List ℕ)) (s : Storing) (held names : List (List ℕ)) → AllCome (task.Put local path s) (removals path held names)
-removals_come local path s held [] = tt
-removals_come local path s held (name ∷ names) = join (task.Put local path s) (remove_more path held name) (removals path held names) (removal_of local path s name (is_among name held) (is_temporary name) refl) (removals_come local path s held names)
+pub removals_come : (local : List ℕ) (path : List (List ℕ)) (s : Storing) (held names : List (List ℕ)) → s.deletes ≡ true → AllCome (task.Put local path s) (removals path held names)
+removals_come local path s held [] may = tt
+removals_come local path s held (name ∷ names) may = join (task.Put local path s) (remove_more path held name) (removals path held names) (removal_of local path s name (is_among name held) (is_temporary name) may refl) (removals_come local path s held names may)
 
 -- a list that is one of these
 pub same_come : (t : Task) (xs ys : List Task) → xs ≡ ys → AllCome t ys → AllCome t xs

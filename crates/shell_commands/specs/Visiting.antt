@@ -1,12 +1,15 @@
--- What a task leaves alone: it looks at, writes and makes the one path of the host's that it is about, and the tasks that come of it are about the names in it.
+-- What a task leaves alone: it looks at, writes and makes the one path of the host's that it is about, and the tasks that come of it are about the names in it. Nothing goes at the server but where it may.
 use Rattle.std.specs.Prelude.{◌≡◌, ◌⊎◌, ℕ, ◌==◌, List, [], ◌∷◌, ◌++◌, Bool, true, false, Option, Result}
 use Rattle.command_text.specs.declared.command.Command.{Command}
 use Rattle.shell_words.specs.Local.{below}
 use Rattle.shell_words.specs.Temporary.{is_carried, is_temporary}
 use Rattle.shell_words.specs.Quoting.{quoted}
+use Rattle.shell_walks.specs.Asking.{command_on, AsksOn}
 use Rattle.shell_walks.specs.Fetching.{Gets}
 use Rattle.shell_walks.specs.Storing.{CountsRead, PutsBytes}
 use Rattle.shell_walks.specs.Telling.{fault_text, note_line, path_text, why_text}
+use Rattle.shell_walks.specs.declared.asking.Deed.{Deed}
+use Rattle.shell_walks.specs.declared.asking.Deed.TheVariants as deed
 use Rattle.shell_walks.specs.declared.fetching.Got.{Got}
 use Rattle.shell_walks.specs.declared.fetching.Got.TheVariants as got
 use Rattle.shell_walks.specs.declared.folder.Kind.{Kind}
@@ -101,15 +104,39 @@ TouchesFor finds reads writes lists makes tries clears (task.Put local path s) o
 TouchesFor finds reads writes lists makes tries clears (task.Get path local deep id) old new = Touches finds reads writes lists makes tries clears local old new
 TouchesFor finds reads writes lists makes tries clears (task.Remove path) old new = new ≡ old
 
+-- ---- what stays at the server
+
+abbrev pub is_removal : Deed → Bool
+is_removal deed.Remove = true
+is_removal deed.RemoveDir = true
+is_removal d = false
+
+-- what is asked about this path, one after the other, none of which removes
+pub data Spares {R : Type 0} (asks : R → Command → Answer → R → Type 0) (path : List (List ℕ)) (old : R) : R → Type 0 where
+  unasked : (new : R) → new ≡ old → Spares asks path old new
+  asked : (d : Deed) (a : Answer) (mid new : R) → Spares asks path old mid → is_removal d ≡ false → AsksOn asks mid (command_on d path) a new → Spares asks path old new
+
+-- the bytes of a file go to the path, or it is asked about for a folder
+pub data SparesPut {R : Type 0} (asks : R → Command → Answer → R → Type 0) (content : R → ℕ → List ℕ) (offers : R → List ℕ → R → Type 0) (old : R) (path : List (List ℕ)) (s : Storing) (new : R) : Type 0 where
+  stores : (bytes : List ℕ) → PutsAlone asks content offers old path s bytes new → SparesPut asks content offers old path s new
+  looks : Spares asks path old new → SparesPut asks content offers old path s new
+
+-- a storing without `deletes` removes nothing
+abbrev pub SparesFor : {R : Type 0} → (asks : R → Command → Answer → R → Type 0) → (content : R → ℕ → List ℕ) → (offers : R → List ℕ → R → Type 0) → Task → R → R → Type 0
+SparesFor asks content offers (task.Put local path s) old new = s.deletes ≡ false → SparesPut asks content offers old path s new
+SparesFor asks content offers (task.Get path local deep id) old new = Unit {0}
+SparesFor asks content offers (task.Remove path) old new = Unit {0}
+
 -- ---- the tasks that come
 
 -- of a name that goes between both, in the folder and in the directory
 abbrev pub IsNamedIn : (local : List ℕ) → (path : List (List ℕ)) → (local' : List ℕ) → (path' : List (List ℕ)) → Type 0
 IsNamedIn local path local' path' = (name : List ℕ) × (is_carried name ≡ true) × (local' ≡ below local name) × (path' ≡ path ++ name ∷ [])
 
+-- what removes, or may, comes of what may alone
 abbrev pub ComesOf : Task → Task → Type 0
-ComesOf (task.Put local path s) (task.Put local' path' s') = ((local' ≡ local) × (path' ≡ path)) ⊎ IsNamedIn local path local' path'
-ComesOf (task.Put local path s) (task.Remove path') = (name : List ℕ) × (is_temporary name ≡ false) × (path' ≡ path ++ name ∷ [])
+ComesOf (task.Put local path s) (task.Put local' path' s') = (s'.deletes ≡ true → s.deletes ≡ true) × (((local' ≡ local) × (path' ≡ path)) ⊎ IsNamedIn local path local' path')
+ComesOf (task.Put local path s) (task.Remove path') = (s.deletes ≡ true) × (name : List ℕ) × (is_temporary name ≡ false) × (path' ≡ path ++ name ∷ [])
 ComesOf (task.Get path local deep id) (task.Get path' local' deep' id') = IsNamedIn local path local' path'
 ComesOf t t' = ⊥
 

@@ -1,7 +1,8 @@
 //! Where a folder of the host goes: its directory is made, where there is none (`specs/Placing.antt`).
 
-ghost use Rattle.std.specs.Prelude.{◌≡◌, ◌&&◌, IfOk};
+ghost use Rattle.std.specs.Prelude.{◌≡◌, ◌&&◌, IfOk, OnOk};
 ghost use Rattle.shell_commands.specs.Placing.{there_as, LooksThere, is_taken, made_as, PlacesIf, MakesPlace, Places, is_in_the_way, instead_as, MakesInstead, OverIf, PlacesOver};
+ghost use Rattle.shell_commands.specs.Visiting.{Spares};
 
 use lb_base::items::{Bytes, Items, Name};
 use shell_walks::asking::{Deed, ask_on};
@@ -166,6 +167,22 @@ pub fn make_place_over<R: Remote>(
 {
     let before = make_place(alloc, remote, path)?;
     over_if(alloc, remote, may_go(before, deletes), path, before)
+}
+
+/// A directory is listed, where that is wanted; else nothing is asked.
+pub(crate) fn list_if<R: Remote>(
+    alloc: Global,
+    remote: &mut R,
+    is_wanted: bool,
+    path: &[Name],
+) -> Result<Answer, AllocError>
+    ensures { OnOk result (Spares R.asks path.now remote.old remote.new) }
+{
+    if is_wanted {
+        ask_on(alloc, remote, Deed::List, path)
+    } else {
+        Ok(Answer::Done)
+    }
 }
 
 /// What a sync says of a directory that was made.

@@ -1,14 +1,15 @@
 //! What a task does, by the walks of `storing`, `fetching` and `removing`, and which tasks come from it (`tasks`).
 
-ghost use Rattle.std.specs.Prelude.{◌≡◌, ℕ, ◌≤◌, List, [], Bool, false, Option, length, IfOk, OnOk};
+ghost use Rattle.std.specs.Prelude.{◌≡◌, ℕ, ◌≤◌, List, [], Bool, true, false, Option, length, IfOk, OnOk};
 ghost use Rattle.limits.specs.declared.TheConstants.{FILE_MOST};
 ghost use Rattle.shell_walks.specs.Storing.{Counts, CountsRead, Offers, PutsBytes, is_compared, is_kept};
 ghost use Rattle.shell_walks.specs.Telling.{unstored_text, why_of};
-ghost use Rattle.shell_commands.specs.Visiting.{AllCome, CountsFor, CountsGot, CountsPut, EndsGet, PutsAlone, Touches, TouchesFor, faulty_as, is_off, noted, one_file, refused_as, said_of};
+ghost use Rattle.shell_commands.specs.Visiting.{AllCome, CountsFor, CountsGot, CountsPut, EndsGet, PutsAlone, Spares, SparesFor, SparesPut, Touches, TouchesFor};
+ghost use Rattle.shell_commands.specs.Visiting.{faulty_as, is_off, noted, one_file, refused_as, said_of};
 ghost use Rattle.shell_walks.specs.declared.tasks.Storing.{Storing as StoringOf};
 ghost use Rattle.shell_walks.specs.declared.tasks.Task.TheVariants as tasks;
 
-use crate::placing::{Place, make_place_over, place_news};
+use crate::placing::{Place, list_if, make_place_over, place_news};
 use crate::unfit::bad_names;
 use lb_base::items::{Bytes, Items, Name};
 use shell_walks::asking::{Deed, ask_on, is_status, seen_of};
@@ -299,6 +300,7 @@ fn put_file<R: Remote, F: Folder>(
 ) -> Result<Visited, AllocError>
     ensures come { IfOk result (λ v. AllCome (tasks.Put local.now path.now storing) v.more) }
     ensures counts { IfOk result (λ v. CountsRead R.asks R.content R.offers F.reads remote.old folder.old local.now path.now storing v.files remote.new folder.new) }
+    ensures spares { storing.deletes ≡ false → OnOk result (SparesPut R.asks R.content R.offers remote.old path.now storing remote.new) }
     ensures touches { Touches F.finds F.reads F.writes F.lists F.makes F.tries F.clears local.now folder.old folder.new }
 {
     match folder.read(alloc, local) {
@@ -315,7 +317,7 @@ fn with_removals(
     held: &[Name],
     names: &[Name],
 ) -> Result<Visited, AllocError>
-    ensures come { (local : List ℕ) (s : StoringOf) → AllCome (tasks.Put local path.now s) visit.more → IfOk result (λ v. AllCome (tasks.Put local path.now s) v.more) }
+    ensures come { (local : List ℕ) (s : StoringOf) → s.deletes ≡ true → AllCome (tasks.Put local path.now s) visit.more → IfOk result (λ v. AllCome (tasks.Put local path.now s) v.more) }
     ensures files { visit.files ≡ 0 → IfOk result (λ v. v.files ≡ 0) }
 {
     let mut visit = visit;
@@ -341,7 +343,7 @@ fn put_names(
     storing: Storing,
     names: &[Name],
 ) -> Result<Visited, AllocError>
-    ensures come { (s : StoringOf) → IfOk result (λ v. AllCome (tasks.Put local.now path.now s) v.more) }
+    ensures come { (s : StoringOf) → s.deletes ≡ storing.deletes → IfOk result (λ v. AllCome (tasks.Put local.now path.now s) v.more) }
     ensures files { IfOk result (λ v. v.files ≡ 0) }
 {
     let more = put_tasks(alloc, local, path, storing, names)?;
@@ -358,7 +360,7 @@ fn put_over_listed(
     names: &[Name],
     listed: &Listed,
 ) -> Result<Visited, AllocError>
-    ensures come { (s : StoringOf) → IfOk result (λ v. AllCome (tasks.Put local.now path.now s) v.more) }
+    ensures come { (s : StoringOf) → s.deletes ≡ storing.deletes → IfOk result (λ v. AllCome (tasks.Put local.now path.now s) v.more) }
     ensures files { IfOk result (λ v. v.files ≡ 0) }
 {
     let more = put_known(alloc, local, path, storing, listed, names)?;
@@ -380,7 +382,7 @@ fn put_over_unlisted(
     names: &[Name],
     why: Why,
 ) -> Result<Visited, AllocError>
-    ensures come { (s : StoringOf) → IfOk result (λ v. AllCome (tasks.Put local.now path.now s) v.more) }
+    ensures come { (s : StoringOf) → s.deletes ≡ storing.deletes → IfOk result (λ v. AllCome (tasks.Put local.now path.now s) v.more) }
     ensures files { IfOk result (λ v. v.files ≡ 0) }
 {
     let visit = put_names(alloc, local, path, storing, names)?;
@@ -401,8 +403,9 @@ fn put_within<R: Remote>(
     storing: Storing,
     names: &[Name],
 ) -> Result<Visited, AllocError>
-    ensures come { (s : StoringOf) → IfOk result (λ v. AllCome (tasks.Put local.now path.now s) v.more) }
+    ensures come { (s : StoringOf) → s.deletes ≡ storing.deletes → IfOk result (λ v. AllCome (tasks.Put local.now path.now s) v.more) }
     ensures files { IfOk result (λ v. v.files ≡ 0) }
+    ensures spares { OnOk result (Spares R.asks path.now remote.old remote.new) }
 {
     if !is_compared(storing) {
         return put_names(alloc, local, path, storing, names);
@@ -424,17 +427,9 @@ fn with_news(visit: Visited, news: Bytes) -> Visited
     visit
 }
 
-/// A directory that a listing told is listed, where what is stored is compared; else nothing is asked.
-fn listing_of<R: Remote>(
-    alloc: Global,
-    remote: &mut R,
-    path: &[Name],
-    storing: Storing,
-) -> Result<Answer, AllocError> {
-    if storing.id.is_none() || !is_compared(storing) {
-        return Ok(Answer::Done);
-    }
-    ask_on(alloc, remote, Deed::List, path)
+/// Whether a directory that a listing told is listed: where what is stored is compared.
+fn is_relisted(storing: Storing) -> bool {
+    storing.id.is_some() && is_compared(storing)
 }
 
 /// The directory of a folder is made, unless it is there, and then what is in it is to be stored.
@@ -448,8 +443,9 @@ fn put_listed<R: Remote>(
 ) -> Result<Visited, AllocError>
     ensures come { IfOk result (λ v. AllCome (tasks.Put local.now path.now storing) v.more) }
     ensures files { IfOk result (λ v. v.files ≡ 0) }
+    ensures spares { storing.deletes ≡ false → OnOk result (Spares R.asks path.now remote.old remote.new) }
 {
-    let listing = listing_of(alloc, remote, path, storing)?;
+    let listing = list_if(alloc, remote, is_relisted(storing), path)?;
     if let Answer::Names(listed) = &listing {
         let within = Storing {
             inner: true,
@@ -484,6 +480,7 @@ fn put_folder<R: Remote, F: Folder>(
     ensures come { IfOk result (λ v. AllCome (tasks.Put local.now path.now storing) v.more) }
     ensures touches { Touches F.finds F.reads F.writes F.lists F.makes F.tries F.clears local.now folder.old folder.new }
     ensures files { IfOk result (λ v. v.files ≡ 0) }
+    ensures spares { storing.deletes ≡ false → OnOk result (Spares R.asks path.now remote.old remote.new) }
 {
     if !storing.deep {
         return faulty(alloc, local, LocalFault::NotDeep);
@@ -506,6 +503,7 @@ fn visit_put<R: Remote, F: Folder>(
     ensures come { IfOk result (λ v. AllCome (tasks.Put local.now path.now storing) v.more) }
     ensures touches { Touches F.finds F.reads F.writes F.lists F.makes F.tries F.clears local.now folder.old folder.new }
     ensures counts { IfOk result (λ v. CountsPut R.asks R.content R.offers F.reads remote.old local.now path.now storing v.files remote.new) }
+    ensures spares { OnOk result (storing.deletes ≡ false → SparesPut R.asks R.content R.offers remote.old path.now storing remote.new) }
 {
     match folder.kind(local, !storing.inner) {
         Kind::File => put_file(alloc, remote, folder, local, path, storing),
@@ -756,7 +754,8 @@ fn visit_removal<R: Remote>(
 }
 
 /// Does a task. What isn't done is said. Of the host's files it touches the path of the task alone; and the tasks
-/// that come of it are about names in that folder, each of which goes between both.
+/// that come of it are about names in that folder, each of which goes between both. A storing without `deletes`
+/// removes nothing at the server, nor does what comes of it.
 pub fn visit<R: Remote, F: Folder>(
     alloc: Global,
     remote: &mut R,
@@ -766,6 +765,7 @@ pub fn visit<R: Remote, F: Folder>(
     ensures come { IfOk result (λ v. AllCome task v.more) }
     ensures touches { OnOk result (TouchesFor F.finds F.reads F.writes F.lists F.makes F.tries F.clears task folder.old folder.new) }
     ensures counts { IfOk result (λ v. CountsFor R.asks R.content R.offers F.reads F.writes F.tries remote.old task v remote.new) }
+    ensures spares { OnOk result (SparesFor R.asks R.content R.offers task remote.old remote.new) }
 {
     match &task {
         Task::Put {

@@ -1,5 +1,8 @@
+use Rattle.std.proofs.Common.{refl}
+use Rattle.shell_commands.specs.Visiting.{Spares.unasked, SparesPut.looks}
 use Rattle.shell_commands.proofs.Counting.{not_put, put_so}
-use Rattle.shell_commands.proofs.Touching.{first_found, only_found}
+use Rattle.shell_commands.proofs.Sparing.{looked_ok, under_ok}
+use Rattle.shell_commands.proofs.Touching.{always_ok, first_found, only_found}
 use Rattle.shell_commands.proofs.visiting.visit_put.Goals as goal
 
 pub returns-in-File-clause-touches : goal.returns-in-File-clause-touches
@@ -25,3 +28,21 @@ returns-in-File-clause-counts g c = put_so _ _ _ _ _ _ _ _ _ _ _ c.put_file.resu
 
 pub returns-in-Folder-clause-counts : goal.returns-in-Folder-clause-counts
 returns-in-Folder-clause-counts g c = not_put _ _ _ _ _ _ _ _ _ c.put_folder.result c.put_folder.ensures.files
+
+pub returns-in-File-clause-spares : goal.returns-in-File-clause-spares
+returns-in-File-clause-spares g c = under_ok c.put_file.result _ _ c.put_file.ensures.spares
+
+pub returns-in-Folder-clause-spares : goal.returns-in-Folder-clause-spares
+returns-in-Folder-clause-spares g c = under_ok c.put_folder.result _ _ (λ e. looked_ok _ _ _ _ _ _ _ c.put_folder.result (c.put_folder.ensures.spares e))
+
+pub returns-in-Missing-clause-spares : goal.returns-in-Missing-clause-spares
+returns-in-Missing-clause-spares g c = always_ok c.faulty.result _ (λ e. looks (unasked _ refl))
+
+pub returns-in-Other-clause-spares : goal.returns-in-Other-clause-spares
+returns-in-Other-clause-spares g c = always_ok c.faulty-in-Other.result _ (λ e. looks (unasked _ refl))
+
+pub returns-in-Link-clause-spares : goal.returns-in-Link-clause-spares
+returns-in-Link-clause-spares g c = always_ok c.faulty-in-Link.result _ (λ e. looks (unasked _ refl))
+
+pub returns-in-Hidden-clause-spares : goal.returns-in-Hidden-clause-spares
+returns-in-Hidden-clause-spares g c = always_ok c.faulty-in-Hidden.result _ (λ e. looks (unasked _ refl))
