@@ -21,7 +21,7 @@ bytes_all [] later = refl
 bytes_all (lot ∷ first) later = ap (λ z. out_bytes lot ++ z) (bytes_all first later) ∙ sym (append_assoc (out_bytes lot) (flat_map out_bytes first) (flat_map out_bytes later))
 
 module _ {V E : Type 0} {g : Ghosts V E} (journal : V → List E) (gives : V → ℕ → List Message → V → Type 0) (session : ℕ) where
-  taken_wider : (lot : List Message) (p m q : Pass V E g) → IsPrefix (seen p) (seen m) → IsTaken journal gives session lot m q → IsTaken journal gives session lot p q
+  pub taken_wider : (lot : List Message) (p m q : Pass V E g) → IsPrefix (seen p) (seen m) → IsTaken journal gives session lot m q → IsTaken journal gives session lot p q
   taken_wider lot p m q first taken = turned_between journal (λ found left. gives found session lot left) p m q q first taken (prefix_self (seen q))
 
   pub gives_none : (may : Bool) (held : Option (List ℕ)) (p q : Pass V E g) → IsPrefix (seen p) (seen q) → GivesTaken journal gives session may may held held p q
@@ -49,10 +49,10 @@ module _ {V E : Type 0} {g : Ghosts V E} (journal : V → List E) (gives : V →
 
 module _ {V E : Type 0} {g : Ghosts V E} (journal : V → List E) (hears : V → ℕ → List ℕ → ℕ → Went → V → Type 0) (gives : V → ℕ → List Message → V → Type 0) (session : ℕ) where
   -- what goes out behind a record, and what is said after that, goes behind what went before
-  pub gives_answer : (may between follows last : Bool) (a b b' c d : Option (List ℕ)) (bytes : List ℕ) (messages : List Message) (p m n q r : Pass V E g)
-      → GivesTaken journal gives session may between a b p m → b' ≡ b → IsPrefix (seen m) (seen n) → IsAnswered journal hears gives session bytes messages n q → Goes between follows b' c (out_bytes messages)
+  pub gives_answer : (may between follows last : Bool) (a b b' c d : Option (List ℕ)) (now : ℕ) (bytes : List ℕ) (messages : List Message) (p m n q r : Pass V E g)
+      → GivesTaken journal gives session may between a b p m → b' ≡ b → IsPrefix (seen m) (seen n) → IsAnswered journal hears gives session now bytes messages n q → Goes between follows b' c (out_bytes messages)
       → GivesTaken journal gives session follows last c d q r → GivesTaken journal gives session may last a d p r
-  gives_answer may between follows last a b b' c d bytes messages p m n q r before same first answered goes behind =
+  gives_answer may between follows last a b b' c d now bytes messages p m n q r before same first answered goes behind =
       let answer : GivesTaken journal gives session between follows b c m q =
       gives_one journal gives session between follows b c messages m answered.between q (prefix_trans (seen m) (seen n) (seen answered.between) first answered.first) answered.took (subst (λ z. Goes between follows z c (out_bytes messages)) same goes) in
       gives_all journal gives session may follows last a c d p q r (gives_all journal gives session may between follows a b c p m q before answer) behind

@@ -8,9 +8,9 @@ ghost use Rattle.record_ends.specs.Ends.{out_bytes};
 ghost use Rattle.record_ends.specs.declared.end.End.TheVariants as ends;
 ghost use Rattle.lbfs_server.specs.Ends.{IsSpoilt};
 ghost use Rattle.lbfs_server.specs.Given.{Given, GivesTaken, Goes};
-ghost use Rattle.lbfs_server.specs.Heard.{HearsToEnd, HearsThenHung};
+ghost use Rattle.lbfs_server.specs.Heard.{AnswersRecord, HearsToEnd, HearsThenHung};
 ghost use Rattle.server_held.specs.Held.{server_waits};
-ghost use Rattle.server_turns.specs.Turned.{IsAnswered, IsHeard, IsHung, IsTaken};
+ghost use Rattle.server_turns.specs.Turned.{IsAnswered, IsHung, IsTaken};
 ghost use Rattle.turn_post.specs.Passes.{IsPassOf, Follows};
 ghost use Rattle.wire.specs.Parse.{parse_of, IsParsed};
 ghost use Rattle.wire.specs.declared.message.Message.{Message};
@@ -158,7 +158,9 @@ fn give_answer<W: Threads + Wait, H: Turns + Drop, Y: Syncs, G: Gate + Drop, L: 
     requires pass { IsPassOf shared.now.post pass }
     requires timed { now < 2 ^ 63 }
     ensures pass { Follows shared.now.post pass result.0 }
-    ensures said { IsParsed prepared.read (parse_of server_waits bytes.now) → (messages : List Message) × IsAnswered H.journal H.hears H.gives session bytes.now messages pass result.0 × Goes gone.follows result.1.follows (L.held link.old) (L.held link.new) (out_bytes messages) }
+    ensures said { IsParsed prepared.read (parse_of server_waits bytes.now) → (messages : List Message)
+        × IsAnswered H.journal H.hears H.gives session now bytes.now messages pass result.0
+        × Goes gone.follows result.1.follows (L.held link.old) (L.held link.new) (out_bytes messages) }
     ensures come { L.left link.new ≡ L.left link.old }
     ensures later { L.faults link.old ≤ L.faults link.new }
 {
@@ -191,7 +193,7 @@ fn hear_beside<
 ) -> (Pass<H>, Gone)
     requires { IsPassOf shared.now.post pass }
     ensures pass { Follows shared.now.post pass result.0 }
-    ensures heard { IsHeard H.journal H.hears session bytes.now pass result.0 }
+    ensures answered { AnswersRecord H.journal H.hears H.gives session bytes.now pass result.0 }
 {
     let (pass, prepared) = shared.read(rt, pass, session, bytes);
     let mut link = gives.lock(rt);
@@ -210,7 +212,8 @@ fn say_beside<W: Wait, H: Turns + Drop, Y: Syncs, G: Gate + Drop, L: Link + Drop
     gives: &Mutex<L>,
 ) -> (Pass<H>, Gone)
     requires { IsPassOf shared.now.post pass }
-    ensures { Follows shared.now.post pass result.0 }
+    ensures pass { Follows shared.now.post pass result.0 }
+    ensures took { (messages : List Message) × IsTaken H.journal H.gives session messages pass result.0 }
 {
     let mut link = gives.lock(rt);
     give_said(rt, shared, pass, session, &mut *link)
@@ -232,7 +235,7 @@ fn read_on<W: Threads + Wait, H: Turns + Drop, Y: Syncs, G: Gate + Drop, L: Link
     ensures ended { result.1 ≡ ends.InputEnd → IsAtEnd (L.left link.new) }
     ensures failed { result.1 ≡ ends.Failed → Rose (L.faults link.old) (L.faults link.new) }
     ensures spoilt { result.1 ≡ ends.Spoilt → IsSpoilt (L.left link.old) (L.left link.new) }
-    ensures heard { (result.1 ≡ ends.InputEnd) ⊎ (result.1 ≡ ends.Spoilt) → HearsToEnd H.journal H.hears session (L.left link.old) (L.left link.new) pass result.0 }
+    ensures heard { (result.1 ≡ ends.InputEnd) ⊎ (result.1 ≡ ends.Spoilt) → HearsToEnd H.journal H.hears H.gives session (L.left link.old) (L.left link.new) pass result.0 }
     ensures out { L.held link.new ≡ L.held link.old }
     ensures later { L.faults link.old ≤ L.faults link.new }
 {
@@ -286,7 +289,7 @@ pub fn session_in<
     ensures ended { result.1 ≡ ends.InputEnd → IsAtEnd (L.left link.new) }
     ensures failed { result.1 ≡ ends.Failed → Rose (L.faults link.old) (L.faults link.new) }
     ensures spoilt { result.1 ≡ ends.Spoilt → IsSpoilt (L.left link.old) (L.left link.new) }
-    ensures heard { (result.1 ≡ ends.InputEnd) ⊎ (result.1 ≡ ends.Spoilt) → HearsThenHung H.journal H.hears H.does session (L.left link.old) (L.left link.new) pass result.0 }
+    ensures heard { (result.1 ≡ ends.InputEnd) ⊎ (result.1 ≡ ends.Spoilt) → HearsThenHung H.journal H.hears H.gives H.does session (L.left link.old) (L.left link.new) pass result.0 }
     ensures out { L.held link.new ≡ L.held link.old }
     ensures later { L.faults link.old ≤ L.faults link.new }
 {
@@ -306,7 +309,8 @@ pub fn session_out<W: Wait, H: Turns + Drop, Y: Syncs, G: Gate + Drop, L: Link +
     gives: &Mutex<L>,
 ) -> Pass<H>
     requires { IsPassOf shared.now.post pass }
-    ensures { Follows shared.now.post pass result }
+    ensures pass { Follows shared.now.post pass result }
+    ensures took { (messages : List Message) × IsTaken H.journal H.gives session messages pass result }
 {
     let mut pass = pass;
     for _turn in rt.forever() {
@@ -323,7 +327,7 @@ pub fn session_out<W: Wait, H: Turns + Drop, Y: Syncs, G: Gate + Drop, L: Link +
 /// Puts out what there is to say to a session, behind an answer to it, until a change of it waits no more: where
 /// no other thread does, nobody else would tell it what came of that. Meanwhile no record of it is read; so it
 /// ends, too, where the client is asked for something, which the change may wait for, or where nothing may follow
-/// on the link. It answers how many calls the client hasn't answered, of which there are so many then.
+/// on the link. `gone` is how far giving had come, and it answers how far it has then.
 fn give_awaited<W: Wait, H: Turns + Drop, Y: Syncs, G: Gate + Drop, L: Link + Drop>(
     rt: &W,
     shared: &Shared<H, Y, G, L>,
@@ -372,7 +376,7 @@ fn both_on<W: Threads + Wait, H: Turns + Drop, Y: Syncs, G: Gate + Drop, L: Link
     ensures ended { result.1 ≡ ends.InputEnd → IsAtEnd (L.left link.new) }
     ensures failed { result.1 ≡ ends.Failed → Rose (L.faults link.old) (L.faults link.new) }
     ensures spoilt { result.1 ≡ ends.Spoilt → IsSpoilt (L.left link.old) (L.left link.new) }
-    ensures heard { (result.1 ≡ ends.InputEnd) ⊎ (result.1 ≡ ends.Spoilt) → HearsToEnd H.journal H.hears session (L.left link.old) (L.left link.new) pass result.0 }
+    ensures heard { (result.1 ≡ ends.InputEnd) ⊎ (result.1 ≡ ends.Spoilt) → HearsToEnd H.journal H.hears H.gives session (L.left link.old) (L.left link.new) pass result.0 }
     ensures gave { (follows : Bool) × GivesTaken H.journal H.gives session true follows (L.held link.old) (L.held link.new) pass result.0 }
     ensures later { L.faults link.old ≤ L.faults link.new }
 {
@@ -426,7 +430,7 @@ pub fn session_both<
     ensures ended { result.1 ≡ ends.InputEnd → IsAtEnd (L.left link.new) }
     ensures failed { result.1 ≡ ends.Failed → Rose (L.faults link.old) (L.faults link.new) }
     ensures spoilt { result.1 ≡ ends.Spoilt → IsSpoilt (L.left link.old) (L.left link.new) }
-    ensures heard { (result.1 ≡ ends.InputEnd) ⊎ (result.1 ≡ ends.Spoilt) → HearsThenHung H.journal H.hears H.does session (L.left link.old) (L.left link.new) pass result.0 }
+    ensures heard { (result.1 ≡ ends.InputEnd) ⊎ (result.1 ≡ ends.Spoilt) → HearsThenHung H.journal H.hears H.gives H.does session (L.left link.old) (L.left link.new) pass result.0 }
     ensures gave { (follows : Bool) × GivesTaken H.journal H.gives session true follows (L.held link.old) (L.held link.new) pass result.0 }
     ensures later { L.faults link.old ≤ L.faults link.new }
 {

@@ -20,14 +20,22 @@ module _ {V E : Type 0} {g : Ghosts V E} (journal : V → List E) where
     pub ends : IsPrefix (journal left) (seen behind)
 
 module _ {V E : Type 0} {g : Ghosts V E} (journal : V → List E) (hears : V → ℕ → List ℕ → ℕ → Went → V → Type 0) (session : ℕ) where
-  -- a record of the session was heard in a turn, at some reading
-  abbrev pub IsHeard : List ℕ → (before behind : Pass V E g) → Type 0
-  IsHeard bytes before behind = (now : ℕ) × (said : Went) × InTurn journal (λ found left. hears found session bytes now said left) before behind
+  -- a record of the session was heard in a turn, at this reading
+  abbrev pub IsHeard : (now : ℕ) → List ℕ → (before behind : Pass V E g) → Type 0
+  IsHeard now bytes before behind = (said : Went) × InTurn journal (λ found left. hears found session bytes now said left) before behind
 
 module _ {V E : Type 0} {g : Ghosts V E} (journal : V → List E) (does : V → Event → Went → V → Type 0) where
   -- a session was hung in a turn
   abbrev pub IsHung : (session : ℕ) → (before behind : Pass V E g) → Type 0
   IsHung session before behind = (said : Went) × InTurn journal (λ found left. does found (event.Hang session) said left) before behind
+
+  -- a connection came in a turn, and this was said of it
+  abbrev pub IsConnected : (said : Went) → (before behind : Pass V E g) → Type 0
+  IsConnected said before behind = InTurn journal (λ found left. does found event.Connect said left) before behind
+
+  -- a pending change was made in a turn, if one could be, at this reading
+  abbrev pub IsSettled : (now : ℕ) → (before behind : Pass V E g) → Type 0
+  IsSettled now before behind = (said : Went) × InTurn journal (λ found left. does found (event.Settle now) said left) before behind
 
 module _ {V : Type 0} (gives : V → ℕ → List Message → V → Type 0) (session : ℕ) where
   -- this was taken out for the session, or nothing was done
@@ -41,10 +49,10 @@ module _ {V E : Type 0} {g : Ghosts V E} (journal : V → List E) (gives : V →
   IsTaken messages before behind = InTurn journal (λ found left. gives found session messages left) before behind
 
 module _ {V E : Type 0} {g : Ghosts V E} (journal : V → List E) (hears : V → ℕ → List ℕ → ℕ → Went → V → Type 0) (gives : V → ℕ → List Message → V → Type 0) (session : ℕ) where
-  -- A record of the session was heard, and behind it these messages were taken out for the session: a pass may have seen the one and not yet what the other left.
-  pub record IsAnswered (bytes : List ℕ) (messages : List Message) (before behind : Pass V E g) : Type 0 where
+  -- A record of the session was heard at this reading, and behind it these messages were taken out for the session: a pass may have seen the one and not yet what the other left.
+  pub record IsAnswered (now : ℕ) (bytes : List ℕ) (messages : List Message) (before behind : Pass V E g) : Type 0 where
     pub between : Pass V E g
-    pub heard : IsHeard journal hears session bytes before between
+    pub heard : IsHeard journal hears session now bytes before between
     pub took : IsTaken journal gives session messages between behind
     pub first : IsPrefix (seen before) (seen between)
     pub later : IsPrefix (seen between) (seen behind)

@@ -5,7 +5,7 @@
 ghost use Rattle.std.specs.Prelude.{◌≡◌, true, nat_le, ◌<◌, ◌^◌, [], ◌∷◌, length, All, Contains, OnOk, IfOk, IfSome};
 ghost use Rattle.std.specs.List.Sorted.{IsPermutation};
 ghost use Rattle.server_turns.specs.Telling.{any_tells};
-ghost use Rattle.server_turns.specs.Turned.{InTurn, IsAnswered, IsHung, IsTaken};
+ghost use Rattle.server_turns.specs.Turned.{InTurn, IsAnswered, IsConnected, IsHung, IsSettled, IsTaken};
 ghost use Rattle.server_turns.specs.declared.shared.SessionLink.{SessionLink};
 ghost use Rattle.server_core.specs.Step.{IsTimed};
 ghost use Rattle.server_held.specs.Held.{server_waits};
@@ -161,7 +161,8 @@ impl<H: Turns + Drop, Y: Syncs, G: Gate + Drop, L: Link + Drop> Shared<H, Y, G, 
     /// A turn in which a connection is made.
     pub fn connect<W: Wait>(&self, rt: &W, pass: Pass<H>) -> (Pass<H>, Went)
         requires { IsPassOf self.now.post pass }
-        ensures { Follows self.now.post pass result.0 }
+        ensures follows { Follows self.now.post pass result.0 }
+        ensures did { IsConnected H.journal H.does result.1 pass result.0 }
     {
         self.event(rt, pass, Event::Connect)
     }
@@ -180,7 +181,8 @@ impl<H: Turns + Drop, Y: Syncs, G: Gate + Drop, L: Link + Drop> Shared<H, Y, G, 
     pub fn make_one<W: Wait>(&self, rt: &W, pass: Pass<H>, now: u64) -> (Pass<H>, bool)
         requires pass { IsPassOf self.now.post pass }
         requires timed { now < 2 ^ 63 }
-        ensures { Follows self.now.post pass result.0 }
+        ensures follows { Follows self.now.post pass result.0 }
+        ensures did { IsSettled H.journal H.does now pass result.0 }
     {
         let (next, went) = self.event(rt, pass, Event::Settle { now });
         (next, !matches!(went, Went::NotReady))
@@ -249,7 +251,7 @@ impl<H: Turns + Drop, Y: Syncs, G: Gate + Drop, L: Link + Drop> Shared<H, Y, G, 
         requires pass { IsPassOf self.now.post pass }
         requires timed { now < 2 ^ 63 }
         ensures follows { Follows self.now.post pass result.0 }
-        ensures answered { IsParsed prepared.read (parse_of server_waits bytes.now) → IsAnswered H.journal H.hears H.gives session bytes.now result.1.messages.items pass result.0 }
+        ensures answered { IsParsed prepared.read (parse_of server_waits bytes.now) → IsAnswered H.journal H.hears H.gives session now bytes.now result.1.messages.items pass result.0 }
     {
         self.gate.before(Who::Reader(session));
         let mut turn = self.post.enter(rt, pass);

@@ -1,21 +1,20 @@
 use Rattle.std.specs.Prelude.{Err, true}
 use Rattle.std.proofs.Common.{sym, ap, ◌∙◌, subst, arith}
 use Rattle.turn_post.specs.Passes.{seen}
-use Rattle.turn_post.proofs.lemmas.Fronts.{prefix_self, prefix_trans}
-use Rattle.server_turns.specs.Turned.{IsHeard}
+use Rattle.turn_post.proofs.lemmas.Fronts.{prefix_self}
 use Rattle.lbfs_server.specs.Given.{GivesTaken}
-use Rattle.lbfs_server.specs.Heard.{HearsAll}
+use Rattle.lbfs_server.specs.Heard.{AnswersRecord, HearsAll}
 use Rattle.lbfs_server.proofs.Following.{follows_self, follows_trans}
 use Rattle.lbfs_server.proofs.Giving.{Taken, taken_none, taken_more, taken_spoilt}
 use Rattle.lbfs_server.proofs.GivingTaken.{gives_none, gives_answer}
-use Rattle.lbfs_server.proofs.Hearing.{heard_between, hears_none, hears_more, hears_at_end, starved}
+use Rattle.lbfs_server.proofs.Hearing.{answered_between, hears_none, hears_more, hears_at_end, starved}
 use Rattle.lbfs_server.proofs.session.both_on.Goals as goal
 
 pub loop-turn-init : goal.loop-turn-init
 loop-turn-init g c = record {
   pass = follows_self c.args.shared.now.post c.args.pass c.requires;
   taken = subst (λ k. Taken (g.L.Link.left c.args.link.now) (g.L.Link.left c.args.link.now) k) (sym c.in-Ok.ensures) (taken_none (g.L.Link.left c.args.link.now));
-  heard = subst (λ k. HearsAll g.H.Journaled.journal g.H.Turns.hears c.args.session (g.L.Link.left c.args.link.now) (g.L.Link.left c.args.link.now) k c.args.pass c.args.pass) (sym c.in-Ok.ensures) (hears_none g.H.Journaled.journal g.H.Turns.hears c.args.session (g.L.Link.left c.args.link.now) c.args.pass);
+  heard = subst (λ k. HearsAll g.H.Journaled.journal g.H.Turns.hears g.H.Turns.gives c.args.session (g.L.Link.left c.args.link.now) (g.L.Link.left c.args.link.now) k c.args.pass c.args.pass) (sym c.in-Ok.ensures) (hears_none g.H.Journaled.journal g.H.Turns.hears g.H.Turns.gives c.args.session (g.L.Link.left c.args.link.now) c.args.pass);
   gave = subst (λ f. GivesTaken g.H.Journaled.journal g.H.Turns.gives c.args.session true f (g.L.Link.held c.args.link.now) (g.L.Link.held c.args.link.now) c.args.pass c.args.pass) (sym c.none-gone.ensures) (gives_none g.H.Journaled.journal g.H.Turns.gives c.args.session true (g.L.Link.held c.args.link.now) c.args.pass c.args.pass (prefix_self (seen c.args.pass)));
   later = omega arith;
 }
@@ -24,15 +23,14 @@ pub loop-turn-preserved : goal.loop-turn-preserved
 loop-turn-preserved g c =
     let given = c.in-Ok-next.ensures.given in
     let said = c.give_answer-heard.ensures.said c.read-read.ensures.parsed in
-    let behind = prefix_trans (seen said.1.between) (seen c.give_answer-heard.result.0) (seen c.give_awaited-next.result.0) said.1.later c.give_awaited-next.ensures.pass.1 in
     let come = c.give_awaited-next.ensures.come ∙ c.give_answer-heard.ensures.come in
     record {
       pass = follows_trans c.args.shared.now.post c.args.pass c.give_answer-heard.result.0 c.give_awaited-next.result.0 (follows_trans c.args.shared.now.post c.args.pass c.loop-turn.pass c.give_answer-heard.result.0 c.loop-turn.invariant.pass (follows_trans c.args.shared.now.post c.loop-turn.pass c.read-read.result.0 c.give_answer-heard.result.0 c.read-read.ensures.follows c.give_answer-heard.ensures.pass)) c.give_awaited-next.ensures.pass;
       taken = subst (λ z. Taken (g.L.Link.left c.args.link.now) z c.next-in-loop-turn.new.self) (sym come) (taken_more (g.L.Link.left c.args.link.now) (g.L.Link.left c.loop-turn.link) (g.L.Link.left c.next-in-loop-turn.new.link) c.loop-turn.inbox c.next-in-loop-turn.new.self given.0 _ c.loop-turn.invariant.taken given.1 given.2);
-      heard = subst (λ z. HearsAll g.H.Journaled.journal g.H.Turns.hears c.args.session (g.L.Link.left c.args.link.now) z c.next-in-loop-turn.new.self c.args.pass c.give_awaited-next.result.0) (sym come) (hears_more g.H.Journaled.journal g.H.Turns.hears c.args.session (g.L.Link.left c.args.link.now) (g.L.Link.left c.loop-turn.link) (g.L.Link.left c.next-in-loop-turn.new.link) c.loop-turn.inbox c.next-in-loop-turn.new.self given.0 _ c.args.pass c.loop-turn.pass c.give_awaited-next.result.0 c.loop-turn.invariant.heard given.1 given.2
-          (subst (λ bytes. IsHeard g.H.Journaled.journal g.H.Turns.hears c.args.session bytes c.loop-turn.pass c.give_awaited-next.result.0) c.as_slice-bytes.ensures
-          (heard_between g.H.Journaled.journal g.H.Turns.hears c.args.session c.as_slice-bytes.result.now c.loop-turn.pass c.read-read.result.0 said.1.between c.give_awaited-next.result.0 c.read-read.ensures.follows.1 said.1.heard behind)));
-      gave = gives_answer g.H.Journaled.journal g.H.Turns.hears g.H.Turns.gives c.args.session true c.loop-turn.gone.follows c.give_answer-heard.result.1.follows c.give_awaited-next.result.1.follows _ _ _ _ _ _ _ c.args.pass c.loop-turn.pass c.read-read.result.0 c.give_answer-heard.result.0 c.give_awaited-next.result.0
+      heard = subst (λ z. HearsAll g.H.Journaled.journal g.H.Turns.hears g.H.Turns.gives c.args.session (g.L.Link.left c.args.link.now) z c.next-in-loop-turn.new.self c.args.pass c.give_awaited-next.result.0) (sym come) (hears_more g.H.Journaled.journal g.H.Turns.hears g.H.Turns.gives c.args.session (g.L.Link.left c.args.link.now) (g.L.Link.left c.loop-turn.link) (g.L.Link.left c.next-in-loop-turn.new.link) c.loop-turn.inbox c.next-in-loop-turn.new.self given.0 _ c.args.pass c.loop-turn.pass c.give_awaited-next.result.0 c.loop-turn.invariant.heard given.1 given.2
+          (subst (λ bytes. AnswersRecord g.H.Journaled.journal g.H.Turns.hears g.H.Turns.gives c.args.session bytes c.loop-turn.pass c.give_awaited-next.result.0) c.as_slice-bytes.ensures
+          (answered_between g.H.Journaled.journal g.H.Turns.hears g.H.Turns.gives c.args.session c.now-now.result c.as_slice-bytes.result.now said.0 c.loop-turn.pass c.read-read.result.0 c.give_answer-heard.result.0 c.give_awaited-next.result.0 c.read-read.ensures.follows.1 said.1 c.give_awaited-next.ensures.pass.1)));
+      gave = gives_answer g.H.Journaled.journal g.H.Turns.hears g.H.Turns.gives c.args.session true c.loop-turn.gone.follows c.give_answer-heard.result.1.follows c.give_awaited-next.result.1.follows _ _ _ _ _ _ _ _ c.args.pass c.loop-turn.pass c.read-read.result.0 c.give_answer-heard.result.0 c.give_awaited-next.result.0
           c.loop-turn.invariant.gave c.in-Ok-next.ensures.out c.read-read.ensures.follows.1 said.1 said.2 c.give_awaited-next.ensures.gave;
       later = omega (arith, c.loop-turn.invariant.later, c.in-Ok-next.ensures.later, c.give_answer-heard.ensures.later, c.give_awaited-next.ensures.later);
     }
@@ -55,7 +53,7 @@ pub returns-in-Err-clause-heard : goal.returns-in-Err-clause-heard
 returns-in-Err-clause-heard g c = starved
 
 pub returns-in-Err-next-clause-heard : goal.returns-in-Err-next-clause-heard
-returns-in-Err-next-clause-heard g c = hears_at_end g.H.Journaled.journal g.H.Turns.hears c.args.session (g.L.Link.left c.args.link.now) (g.L.Link.left c.loop-turn.link) (g.L.Link.left c.next-in-loop-turn.new.link) c.loop-turn.inbox c.next-in-loop-turn.new.self c.in-Err-next.end c.args.pass c.loop-turn.pass c.loop-turn.invariant.heard
+returns-in-Err-next-clause-heard g c = hears_at_end g.H.Journaled.journal g.H.Turns.hears g.H.Turns.gives c.args.session (g.L.Link.left c.args.link.now) (g.L.Link.left c.loop-turn.link) (g.L.Link.left c.next-in-loop-turn.new.link) c.loop-turn.inbox c.next-in-loop-turn.new.self c.in-Err-next.end c.args.pass c.loop-turn.pass c.loop-turn.invariant.heard
     (λ is. c.in-Err-next.ensures.ended (ap Err is)) (λ is. c.in-Err-next.ensures.spoilt (ap Err is))
 
 pub returns-in-Err-clause-gave : goal.returns-in-Err-clause-gave

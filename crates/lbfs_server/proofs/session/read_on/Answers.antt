@@ -1,7 +1,6 @@
 use Rattle.std.specs.Prelude.{Err}
 use Rattle.std.proofs.Common.{refl, sym, ap, ◌∙◌, subst, arith}
-use Rattle.server_turns.specs.Turned.{IsHeard}
-use Rattle.lbfs_server.specs.Heard.{HearsAll}
+use Rattle.lbfs_server.specs.Heard.{AnswersRecord, HearsAll}
 use Rattle.lbfs_server.proofs.Following.{follows_self, follows_trans}
 use Rattle.lbfs_server.proofs.Giving.{Taken, taken_none, taken_more, taken_spoilt}
 use Rattle.lbfs_server.proofs.Hearing.{hears_none, hears_more, hears_at_end, starved}
@@ -11,7 +10,7 @@ pub loop-turn-init : goal.loop-turn-init
 loop-turn-init g c = record {
   pass = follows_self c.args.shared.now.post c.args.pass c.requires;
   taken = subst (λ k. Taken (g.L.Link.left c.args.link.now) (g.L.Link.left c.args.link.now) k) (sym c.in-Ok.ensures) (taken_none (g.L.Link.left c.args.link.now));
-  heard = subst (λ k. HearsAll g.H.Journaled.journal g.H.Turns.hears c.args.session (g.L.Link.left c.args.link.now) (g.L.Link.left c.args.link.now) k c.args.pass c.args.pass) (sym c.in-Ok.ensures) (hears_none g.H.Journaled.journal g.H.Turns.hears c.args.session (g.L.Link.left c.args.link.now) c.args.pass);
+  heard = subst (λ k. HearsAll g.H.Journaled.journal g.H.Turns.hears g.H.Turns.gives c.args.session (g.L.Link.left c.args.link.now) (g.L.Link.left c.args.link.now) k c.args.pass c.args.pass) (sym c.in-Ok.ensures) (hears_none g.H.Journaled.journal g.H.Turns.hears g.H.Turns.gives c.args.session (g.L.Link.left c.args.link.now) c.args.pass);
   out = refl;
   later = omega arith;
 }
@@ -22,8 +21,8 @@ loop-turn-preserved g c =
     record {
       pass = follows_trans c.args.shared.now.post c.args.pass c.loop-turn.pass c.hear_beside-next.result.0 c.loop-turn.invariant.pass c.hear_beside-next.ensures.pass;
       taken = taken_more (g.L.Link.left c.args.link.now) (g.L.Link.left c.loop-turn.link) (g.L.Link.left c.next-in-loop-turn.new.link) c.loop-turn.inbox c.next-in-loop-turn.new.self given.0 _ c.loop-turn.invariant.taken given.1 given.2;
-      heard = hears_more g.H.Journaled.journal g.H.Turns.hears c.args.session (g.L.Link.left c.args.link.now) (g.L.Link.left c.loop-turn.link) (g.L.Link.left c.next-in-loop-turn.new.link) c.loop-turn.inbox c.next-in-loop-turn.new.self given.0 _ c.args.pass c.loop-turn.pass c.hear_beside-next.result.0 c.loop-turn.invariant.heard given.1 given.2
-          (subst (λ bytes. IsHeard g.H.Journaled.journal g.H.Turns.hears c.args.session bytes c.loop-turn.pass c.hear_beside-next.result.0) c.as_slice-bytes.ensures c.hear_beside-next.ensures.heard);
+      heard = hears_more g.H.Journaled.journal g.H.Turns.hears g.H.Turns.gives c.args.session (g.L.Link.left c.args.link.now) (g.L.Link.left c.loop-turn.link) (g.L.Link.left c.next-in-loop-turn.new.link) c.loop-turn.inbox c.next-in-loop-turn.new.self given.0 _ c.args.pass c.loop-turn.pass c.hear_beside-next.result.0 c.loop-turn.invariant.heard given.1 given.2
+          (subst (λ bytes. AnswersRecord g.H.Journaled.journal g.H.Turns.hears g.H.Turns.gives c.args.session bytes c.loop-turn.pass c.hear_beside-next.result.0) c.as_slice-bytes.ensures c.hear_beside-next.ensures.answered);
       out = c.in-Ok-next.ensures.out ∙ c.loop-turn.invariant.out;
       later = omega (arith, c.loop-turn.invariant.later, c.in-Ok-next.ensures.later);
     }
@@ -49,5 +48,5 @@ pub returns-in-Err-clause-heard : goal.returns-in-Err-clause-heard
 returns-in-Err-clause-heard g c = starved
 
 pub returns-in-Err-next-clause-heard : goal.returns-in-Err-next-clause-heard
-returns-in-Err-next-clause-heard g c = hears_at_end g.H.Journaled.journal g.H.Turns.hears c.args.session (g.L.Link.left c.args.link.now) (g.L.Link.left c.loop-turn.link) (g.L.Link.left c.next-in-loop-turn.new.link) c.loop-turn.inbox c.next-in-loop-turn.new.self c.in-Err-next.end c.args.pass c.loop-turn.pass c.loop-turn.invariant.heard
+returns-in-Err-next-clause-heard g c = hears_at_end g.H.Journaled.journal g.H.Turns.hears g.H.Turns.gives c.args.session (g.L.Link.left c.args.link.now) (g.L.Link.left c.loop-turn.link) (g.L.Link.left c.next-in-loop-turn.new.link) c.loop-turn.inbox c.next-in-loop-turn.new.self c.in-Err-next.end c.args.pass c.loop-turn.pass c.loop-turn.invariant.heard
     (λ is. c.in-Err-next.ensures.ended (ap Err is)) (λ is. c.in-Err-next.ensures.spoilt (ap Err is))

@@ -8,7 +8,7 @@ abbrev pub invariant-loop-turn : goal.invariant-loop-turn
 invariant-loop-turn g l = record {
   pass : Follows l.shared.post l.fn.pass l.pass;
   taken : Taken (g.L.Link.left l.fn.link) (g.L.Link.left l.link) l.inbox;
-  heard : HearsAll g.H.Journaled.journal g.H.Turns.hears l.session (g.L.Link.left l.fn.link) (g.L.Link.left l.link) l.inbox l.fn.pass l.pass;
+  heard : HearsAll g.H.Journaled.journal g.H.Turns.hears g.H.Turns.gives l.session (g.L.Link.left l.fn.link) (g.L.Link.left l.link) l.inbox l.fn.pass l.pass;
   out : g.L.Link.held l.link ≡ g.L.Link.held l.fn.link;
   later : g.L.Link.faults l.fn.link ≤ g.L.Link.faults l.link;
 }

@@ -9,7 +9,7 @@ use Rattle.lbfs_server.proofs.session.session_in.Goals as goal
 pub returns-clause-heard : goal.returns-clause-heard
 returns-clause-heard g c = λ is. (
   c.read_on-pass.result.0,
-  subst (λ left. HearsToEnd g.H.Journaled.journal g.H.Turns.hears c.args.session (g.L.Link.left c.args.link.now) left c.args.pass c.read_on-pass.result.0) (sym c.shut.ensures.come) (c.read_on-pass.ensures.heard is),
+  subst (λ left. HearsToEnd g.H.Journaled.journal g.H.Turns.hears g.H.Turns.gives c.args.session (g.L.Link.left c.args.link.now) left c.args.pass c.read_on-pass.result.0) (sym c.shut.ensures.come) (c.read_on-pass.ensures.heard is),
   c.hang-pass.ensures.hung,
 )
 

@@ -13,7 +13,6 @@ returns-in-Some-clause-answered g c = λ is.
     record {
       between = c.leave-pass.result;
       heard = (
-        c.args.now,
         c.got_in-got.result.heard,
         record {
           found = value_of c.enter-turn.result;
@@ -41,7 +40,6 @@ returns-in-None-clause-answered g c = λ is.
     record {
       between = c.wake-pass.result;
       heard = (
-        c.args.now,
         c.got_in-got.result.heard,
         record {
           found = value_of c.enter-turn.result;
