@@ -4,6 +4,7 @@
 
 ghost use Rattle.std.specs.Prelude.{◌≡◌, None};
 
+use crate::ahead::{LongContent, OPEN_MOST, read_long, take_bytes};
 use crate::commit::FolderSyncs;
 use crate::edits::apply_change;
 use crate::found::record_in;
@@ -17,6 +18,7 @@ use std::alloc::{AllocError, Global};
 use std::fs;
 use std::fs::File;
 use std::rt::Files;
+use std::thread::Threads;
 use store::record::{Head, Kept, RecordChange};
 use store::store::{Store, StoreError};
 use synced_store::checks::{CheckedStore, Checks};
@@ -37,6 +39,8 @@ pub struct FolderStore<R> {
     rt: R,
     /// The folder, once it was loaded.
     held: Option<LoadedFolder<R>>,
+    /// The place at which it was loaded ahead, and what `load` is to answer of it.
+    ahead: Option<(String, Result<Vec<Kept>, StoreError>)>,
     /// Whether nothing is flushed.
     unsynced: bool,
     spare: u32,
@@ -49,12 +53,14 @@ impl<R: Drop> Drop for FolderStore<R> {
         let FolderStore {
             rt,
             held,
+            ahead,
             unsynced: _unsynced,
             spare: _spare,
             faults: _faults,
         } = self;
         drop(rt);
         drop(held);
+        drop(ahead);
     }
 }
 
@@ -88,6 +94,7 @@ impl<R> FolderStore<R> {
         FolderStore {
             rt,
             held: None,
+            ahead: None,
             unsynced: false,
             spare: 0,
             faults: 0,
@@ -99,33 +106,13 @@ impl<R> FolderStore<R> {
 fn tell_no_record<R: Eprint>(
     rt: &R,
     alloc: Global,
-    place: &str,
+    folder: &str,
     which: Which,
 ) -> Result<(), AllocError> {
     let mut name = String::new(alloc);
     put_name(&mut name, which)?;
-    let _told = eprintln!(rt; "lbfs: {place}/{name}: holds no record (was it cut?)");
+    let _told = eprintln!(rt; "lbfs: {folder}{name}: holds no record (was it cut?)");
     Ok(())
-}
-
-/// Reads a record that the store has.
-fn read_record<R: Files<File = File> + AllocGlobal + Eprint + Clone + Drop>(
-    rt: &R,
-    alloc: Global,
-    place: &str,
-    store: &mut LogStore<DiskFolder<R>>,
-    which: Which,
-) -> Result<Kept, StoreError> {
-    let Some(bytes) = store.read(which)? else {
-        return Err(StoreError::Failed);
-    };
-    match record_in(alloc, which, bytes)? {
-        Some(record) => Ok(record),
-        None => {
-            tell_no_record(rt, alloc, place, which)?;
-            Err(StoreError::Failed)
-        }
-    }
 }
 
 /// What is sure of a store whose log is at a place.
@@ -151,24 +138,16 @@ fn syncs_of<R: Files<File = File> + Eprint + Clone + Drop>(
     Ok(FolderSyncs::new(rt, alloc, path.as_str(), log)?)
 }
 
-/// Opens a folder, and reads its records.
-fn load_folder<R: Files<File = File> + AllocGlobal + Eprint + Clone + Drop>(
+/// Opens a folder, and says which records it has.
+fn open_folder<R: Files<File = File> + AllocGlobal + Eprint + Clone + Drop>(
     rt: &R,
     alloc: Global,
     place: &str,
     unsynced: bool,
-) -> Result<(LoadedFolder<R>, Vec<Kept>), StoreError> {
+) -> Result<(LoadedFolder<R>, Vec<Which>), StoreError> {
     let folder = DiskFolder::open(rt.clone()?, alloc, place, unsynced)?;
     let mut store = LogStore::new(folder, alloc);
     let there = store.load()?;
-    let mut records = Vec::with_capacity(alloc, there.len())?;
-    for which in there.iter() {
-        let record = read_record(rt, alloc, place, &mut store, *which)?;
-        match records.push(record) {
-            Ok(()) => {}
-            Err(_want) => return Err(StoreError::Memory),
-        }
-    }
     let syncs = syncs_of(rt, alloc, place, unsynced)?;
     let front = format!(in alloc; "{place}/")?;
     let held = LoadedFolder {
@@ -176,6 +155,36 @@ fn load_folder<R: Files<File = File> + AllocGlobal + Eprint + Clone + Drop>(
         store,
         syncs,
     };
+    Ok((held, there))
+}
+
+/// Opens a folder, and reads its records.
+fn load_folder<R: Files<File = File> + AllocGlobal + Eprint + Clone + Drop>(
+    rt: &R,
+    alloc: Global,
+    place: &str,
+    unsynced: bool,
+) -> Result<(LoadedFolder<R>, Vec<Kept>), StoreError> {
+    let (mut held, there) = open_folder(rt, alloc, place, unsynced)?;
+    let mut records = Vec::with_capacity(alloc, there.len())?;
+    held.read(rt, there.as_slice(), Vec::new(alloc), &mut records)?;
+    Ok((held, records))
+}
+
+/// The same where threads read the long contents.
+fn load_by_threads<H: Threads + Sync, R: Files<File = File> + AllocGlobal + Eprint + Clone + Drop>(
+    handle: &H,
+    rt: &R,
+    alloc: Global,
+    place: &str,
+    unsynced: bool,
+) -> Result<(LoadedFolder<R>, Vec<Kept>), StoreError> {
+    let (mut held, there) = open_folder(rt, alloc, place, unsynced)?;
+    let mut records = Vec::with_capacity(alloc, there.len())?;
+    for these in there.as_slice().chunks(OPEN_MOST) {
+        let long = read_long(handle, rt, alloc, held.front.as_str(), these)?;
+        held.read(rt, these, long, &mut records)?;
+    }
     Ok((held, records))
 }
 
@@ -217,6 +226,48 @@ fn are_large<R: Files<File = File>>(
 }
 
 impl<R: Files<File = File> + AllocGlobal + Eprint + Clone + Drop> LoadedFolder<R> {
+    /// Adds these of its records. The bytes of some were read already.
+    fn read(
+        &mut self,
+        rt: &R,
+        these: &[Which],
+        long: Vec<LongContent>,
+        records: &mut Vec<Kept>,
+    ) -> Result<(), StoreError> {
+        let mut long = long;
+        for which in these {
+            let record = self.read_record(rt, *which, take_bytes(long.as_mut_slice(), *which))?;
+            match records.push(record) {
+                Ok(()) => {}
+                Err(_want) => return Err(StoreError::Memory),
+            }
+        }
+        Ok(())
+    }
+
+    /// A record that it has, of which these bytes were read already, if any were.
+    fn read_record(
+        &mut self,
+        rt: &R,
+        which: Which,
+        came: Option<Vec<u8>>,
+    ) -> Result<Kept, StoreError> {
+        let bytes = match came {
+            Some(bytes) => bytes,
+            None => match self.store.read(which)? {
+                Some(bytes) => bytes,
+                None => return Err(StoreError::Failed),
+            },
+        };
+        match record_in(rt.alloc(), which, bytes)? {
+            Some(record) => Ok(record),
+            None => {
+                tell_no_record(rt, rt.alloc(), self.front.as_str(), which)?;
+                Err(StoreError::Failed)
+            }
+        }
+    }
+
     /// Makes a change, or leaves the records as they were, or is in doubt.
     fn apply(
         &mut self,
@@ -276,6 +327,61 @@ impl<R: Files<File = File> + AllocGlobal + Eprint + Clone + Drop> LoadedFolder<R
     }
 }
 
+impl<R: Files<File = File> + AllocGlobal + Eprint + Clone + Drop> FolderStore<R> {
+    /// Loads a folder by threads, ahead of `load`, which then answers what came. Where memory runs out for that `load`
+    /// does it all.
+    pub fn load_ahead<H: Threads + Sync>(&mut self, handle: &H, alloc: Global, place: &str)
+        ensures { (self.new.spare ≡ self.old.spare) × (self.new.faults ≡ self.old.faults) }
+    {
+        self.held = None;
+        self.ahead = None;
+        let Ok(at) = String::from_str(alloc, place) else {
+            return;
+        };
+        let came = load_by_threads(handle, &self.rt, alloc, place, self.unsynced);
+        let came = self.hold(came);
+        self.ahead = Some((at, came));
+    }
+
+    /// What was loaded ahead, if it is of this place. It is forgotten.
+    fn take_ahead(&mut self, place: &str) -> Option<Result<Vec<Kept>, StoreError>>
+        ensures { (self.new.spare ≡ self.old.spare) × (self.new.faults ≡ self.old.faults) }
+    {
+        let (at, came) = self.ahead.take()?;
+        if at.as_str() == place {
+            Some(came)
+        } else {
+            None
+        }
+    }
+
+    /// Loads a folder now.
+    fn load_now(&mut self, alloc: Global, place: &str) -> Result<Vec<Kept>, StoreError>
+        ensures { (self.new.spare ≡ self.old.spare) × (self.new.faults ≡ self.old.faults) }
+    {
+        // The folder that was loaded before is dropped, so that it may be this one.
+        self.held = None;
+        let came = load_folder(&self.rt, alloc, place, self.unsynced);
+        self.hold(came)
+    }
+
+    /// Holds a folder that was loaded, and gives its records.
+    fn hold(
+        &mut self,
+        came: Result<(LoadedFolder<R>, Vec<Kept>), StoreError>,
+    ) -> Result<Vec<Kept>, StoreError>
+        ensures { (self.new.spare ≡ self.old.spare) × (self.new.faults ≡ self.old.faults) }
+    {
+        match came {
+            Ok((held, records)) => {
+                self.held = Some(held);
+                Ok(records)
+            }
+            Err(why) => Err(why),
+        }
+    }
+}
+
 impl<R: Files<File = File> + AllocGlobal + Eprint + Clone + Drop> Store for FolderStore<R> {
     ghost records = { λ _. None };
 
@@ -286,13 +392,12 @@ impl<R: Files<File = File> + AllocGlobal + Eprint + Clone + Drop> Store for Fold
     ghost faults = { λ s. s.faults };
 
     fn load(&mut self, alloc: Global, place: &str) -> Result<Vec<Kept>, StoreError> {
-        // The folder that was loaded before is dropped, so that it may be this one.
-        self.held = None;
-        match load_folder(&self.rt, alloc, place, self.unsynced) {
-            Ok((held, records)) => {
-                self.held = Some(held);
-                Ok(records)
-            }
+        let came = match self.take_ahead(place) {
+            Some(came) => came,
+            None => self.load_now(alloc, place),
+        };
+        match came {
+            Ok(records) => Ok(records),
             Err(StoreError::Failed) => {
                 self.faults = one_more(self.faults);
                 Err(StoreError::Failed)

@@ -2,6 +2,7 @@
 //! whole or not at all, however the program ends, and whatever a cut of power leaves.
 #![tactic(auto)]
 
+mod ahead;
 pub mod commit;
 mod edits;
 pub mod folder;

@@ -1,9 +1,8 @@
-//! A store that tells on standard error that it is being loaded, and waits then for leases of the run before
-//! (`terms`). It is in all else the one that it stands over.
+//! A store that notes, once it is loaded, how many files it has, for who tells what is served, and waits then for
+//! leases of the run before (`terms`). It is in all else the one that it stands over.
 
 ghost use Rattle.std.specs.Prelude.{◌≡◌};
 
-use crate::notes::{Note, tell};
 use crate::serving::Serving;
 use lb_base::source::Failed;
 use std::alloc::{AllocError, Global};
@@ -14,7 +13,7 @@ use store::store::{Store, StoreError};
 use synced_store::checks::{CheckedStore, Checks};
 use synced_store::syncs::Synced;
 
-/// A store whose loading is told.
+/// A store whose files are counted.
 #[derive(Drop)]
 pub struct ToldStore<R, S> {
     rt: R,
@@ -24,7 +23,7 @@ pub struct ToldStore<R, S> {
 }
 
 impl<R, S> ToldStore<R, S> {
-    /// This store, whose loading is told by that runtime.
+    /// This store, whose waiting is told by that runtime.
     pub fn new(rt: R, store: S, serving: Option<Arc<Serving>>) -> ToldStore<R, S>
         ensures { result ≡ record { rt = rt; store = store; serving = serving } }
     {
@@ -58,7 +57,6 @@ impl<R: HostDisk + HostTime + Eprint, S: Store> Store for ToldStore<R, S> {
     ghost faults = { λ s. S.faults s.store };
 
     fn load(&mut self, alloc: Global, place: &str) -> Result<Vec<Kept>, StoreError> {
-        tell(&self.rt, &Note::Loading { place });
         match self.store.load(alloc, place) {
             Ok(records) => {
                 if let Some(serving) = &self.serving {

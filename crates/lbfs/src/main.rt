@@ -154,12 +154,19 @@ fn served(alloc: Global, words: &[String]) -> Result<Served, AllocError> {
     Ok((options, serving, more))
 }
 
-/// Whether nothing is flushed.
-fn is_unsynced(options: &Option<ServeOptions>) -> bool {
-    match options {
-        Some(options) => options.unsynced,
-        None => false,
+/// Has a store load what will be served, by threads, before a run asks for it.
+fn load_ahead<H: Threads + Sync>(
+    handle: &H,
+    rt: &HostRuntime,
+    store: &mut FolderStore<HostRuntime>,
+    options: &ServeOptions,
+) {
+    if options.unsynced {
+        store.leave_unflushed();
     }
+    let place = options.store.as_str();
+    tell(rt, &Note::Loading { place });
+    store.load_ahead(handle, rt.alloc(), place);
 }
 
 /// The clock of a server, or of a mount. A server's stands still while the host sleeps, so that its leases
@@ -181,29 +188,30 @@ fn starved(rt: &HostRuntime) -> ExitCode {
 /// What counts what was done, for the store and for the network.
 type Counting = (Option<Arc<Done>>, Option<Arc<Done>>);
 
-/// Runs the words behind the program's name over the outside, and ends with the status's number. Of the
-/// two stores the second is for what is told of the first.
-fn run<H: Threads + Wait + Sync, D: Synced + Checks + Drop + Send>(
+/// A store, and another of the same folder, for what is told of the first.
+type Stores = (FolderStore<HostRuntime>, FolderStore<HostRuntime>);
+
+/// Runs the words behind the program's name over the outside, and ends with the status's number.
+fn run<H: Threads + Wait + Sync>(
     handle: &H,
     rt: HostRuntime,
     words: &[String],
-    stores: (D, D),
+    stores: Stores,
     counting: Counting,
 ) -> ExitCode {
-    let (store, again) = stores;
+    let (mut store, again) = stores;
     let (changes, connections) = counting;
     let Ok((options, serving, more)) = served(rt.alloc(), words) else {
         return starved(&rt);
     };
-    let mut store = CountedStore::new(handle, ToldStore::new(rt, store, more), changes);
-    if is_unsynced(&options) {
-        store.leave_unflushed();
+    if let Some(options) = &options {
+        load_ahead(handle, &rt, &mut store, options);
     }
     let network = TcpNetwork::new(rt, rt.alloc(), serving);
     let outside = Outside {
         source: StreamSource::new(ToldReader::new(rt, rt.stdin())),
         sink: StreamSink::new(ToldWriter::new(rt, rt.stdout())),
-        store,
+        store: CountedStore::new(handle, ToldStore::new(rt, store, more), changes),
         files: HostFiles::new(rt, process::id(rt.process())),
         network: CountedNetwork::new(handle, network, connections),
         clock: clock_for(rt, options.is_some()),
@@ -239,11 +247,11 @@ fn share_over(rt: &HostRuntime, options: &ShareOptions) -> Result<Sharing, Alloc
 
 /// `share`: `serve` without end, by its words. What it did is said where a signal ends it, and not where it ends by
 /// itself.
-fn run_share<H: Threads + Wait + Sync, D: Synced + Checks + Drop + Send>(
+fn run_share<H: Threads + Wait + Sync>(
     handle: &H,
     rt: HostRuntime,
     options: &ShareOptions,
-    stores: (D, D),
+    stores: Stores,
 ) -> ExitCode {
     let Ok(sharing) = share_over(&rt, options) else {
         return starved(&rt);
