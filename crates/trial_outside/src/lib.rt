@@ -2,7 +2,6 @@
 //! them, and what of their calls fails.
 #![tactic(auto)]
 
-pub mod left;
 pub mod line;
 pub mod outside;
 pub mod port;

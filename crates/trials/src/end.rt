@@ -3,6 +3,7 @@
 
 ghost use Rattle.program_words.specs.Words.{IsFew, command_in};
 
+use crate::left::{put_left, put_written};
 use crate::words::asked_of;
 use exit_status::status::Status;
 use lbfs_run::outside::Outside;
@@ -14,7 +15,6 @@ use std::alloc::{AllocError, Global};
 use std::sync::atomic::AtomicU64;
 use std::sync::{Arc, Wait};
 use std::thread::Threads;
-use trial_outside::left::{put_left, put_written};
 use trial_outside::outside::{around, files};
 use trial_outside::port::{Port, PortEnd, PortLink, PortNet, PortPace};
 use trial_outside::screen::{Screen, Typist};

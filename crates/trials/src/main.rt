@@ -3,6 +3,7 @@
 #![tactic(auto)]
 
 mod end;
+mod left;
 mod runs;
 mod words;
 

@@ -1,11 +1,11 @@
 //! What is left of a run's outside, and what is printed of it.
 
-use crate::port::{PortLink, PortNet};
-use crate::screen::{Screen, Typist};
-use crate::trial::Trial;
-use crate::tried_store::TriedStore;
 use links::mem_files::MemFiles;
 use row_text::out::Out;
+use trial_outside::port::{PortLink, PortNet};
+use trial_outside::screen::{Screen, Typist};
+use trial_outside::trial::Trial;
+use trial_outside::tried_store::TriedStore;
 
 /// How many answers had appeared at each call of a mount's source; how many faults a server's network had, how many
 /// records its store has, and how often that was to be made sure, where it is asked for; and what was written.
