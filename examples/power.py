@@ -59,6 +59,20 @@ def calls(path):
                 yield first, at, call[1], call[2], int(call[3])
 
 
+def reads(path, front):
+    """Of each file whose path begins so, by the rest of it, what a trace that has paths (`-y`) reads: how many bytes, and by
+    how many threads; and how many threads read them all."""
+    with open(path, encoding="ascii") as lines:
+        threads = [LINE.match(line)[1] for line in lines]
+    came, readers = {}, {}
+    for first, _last, call, words, count in calls(path):
+        found = re.match(rf"\d+<{re.escape(front)}(\w+)>", words)
+        if call == "read" and found:
+            came[found[1]] = came.get(found[1], 0) + count
+            readers.setdefault(found[1], set()).add(threads[first])
+    return {name: (came[name], len(readers[name])) for name in came}, len(set().union(*readers.values()))
+
+
 class Inode:
     """A file's bytes: those that are on the disk, and what was done to them since."""
 
