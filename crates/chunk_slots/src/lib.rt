@@ -6,7 +6,7 @@
 //! lie.
 #![tactic(auto)]
 
-ghost use Rattle.std.specs.Prelude.{◌≡◌, ◌<◌, ◌+◌, ◌++◌, ◌∷◌, [], length, drop, replicate, slice_set, Option, Some, None, List, ℕ, IfOk, unwrap_or, true, false};
+ghost use Rattle.std.specs.Prelude.{◌≡◌, ◌<◌, ◌≤◌, ◌+◌, ◌++◌, ◌∷◌, [], length, drop, replicate, slice_set, Option, Some, None, List, ℕ, IfOk, IfSome, unwrap_or, true, false};
 ghost use Rattle.chunk_slots.specs.Slots.{behind, first_len, has_piece, slots_bytes, slots_of, total};
 
 use cut_bytes::ahead::Ahead;
@@ -31,6 +31,8 @@ pub struct Slots {
     apart: Vec<Option<Bytes>>,
     /// What was hashed of the bytes in front, unless it is lent: a hint.
     ahead: Option<Ahead>,
+    /// How many of them are lent to be hashed, until they are back.
+    lent: Option<usize>,
 }
 
 /// By hand, so that the crates above prove nothing of how the parts are dropped.
@@ -41,6 +43,7 @@ impl Drop for Slots {
             lens,
             apart,
             ahead,
+            lent: _lent,
         } = self;
         drop(front);
         drop(lens);
@@ -187,8 +190,35 @@ fn are_in_front(lens: &Vec<usize>, apart: &Vec<Option<Bytes>>) -> bool
     }
 }
 
+/// Whether so much came behind what is hashed that it should be hashed as well, and so much of a content of this
+/// size is still to come.
+fn is_much(came: usize, hashed: usize, size: u64) -> bool
+    ensures least { result ≡ true → 1048576 ≤ came }
+    ensures left { result ≡ true → came + 2097152 ≤ size }
+{
+    if came.saturating_sub(hashed) < LENT_LEAST {
+        return false;
+    }
+    size.saturating_sub(came as u64) >= LEFT_LEAST
+}
+
+/// How many bytes were hashed.
+fn hashed_len(ahead: &Option<Ahead>) -> usize {
+    match ahead {
+        Some(ahead) => ahead.len(),
+        None => 0,
+    }
+}
+
+/// What came back, where it has as many bytes as are lent: else it is of an earlier fetch.
+fn own(back: Ahead, lent: usize) -> Option<Ahead> {
+    if back.len() == lent { Some(back) } else { None }
+}
+
 /// What was hashed, with what came behind it. None where memory is wanting, or more was hashed than came.
-fn grown(ahead: Ahead, front: &[u8]) -> Option<Ahead> {
+fn grown(ahead: Ahead, front: &[u8]) -> Option<Ahead>
+    ensures { IfSome result (λ ahead. length ahead ≡ length front.now) }
+{
     let mut ahead = ahead;
     let had = ahead.len();
     if had > front.len() {
@@ -210,6 +240,7 @@ impl Slots {
             lens: Vec::new(alloc),
             apart: Vec::new(alloc),
             ahead: None,
+            lent: None,
         }
     }
 
@@ -225,6 +256,7 @@ impl Slots {
             lens,
             apart,
             ahead: None,
+            lent: None,
         })
     }
 
@@ -243,27 +275,29 @@ impl Slots {
         )
     }
 
-    /// Whether so much came behind what is hashed that more should be, of a content of so many bytes.
-    pub fn may_lend(&self, size: u64) -> bool {
-        let hashed = match &self.ahead {
-            Some(ahead) => ahead.len(),
-            None => 0,
-        };
-        let came = self.front.len();
-        came.saturating_sub(hashed) >= LENT_LEAST && size.saturating_sub(came as u64) >= LEFT_LEAST
+    /// Whether so much came behind what is hashed that more should be, of a content of so many bytes. Not while some
+    /// is lent: whoever hashes it lends anew as it gives it back.
+    pub fn may_lend(&self, size: u64) -> bool
+        ensures { result ≡ true → 3145728 ≤ size }
+    {
+        self.lent.is_none() && is_much(self.front.len(), hashed_len(&self.ahead), size)
     }
 
     /// What was lent is back, and is lent anew with what came since, where that is much. It is a copy, to be
-    /// hashed where nobody waits for these slots.
+    /// hashed where nobody waits for these slots. What comes back of an earlier fetch is dropped.
     pub fn lend(&mut self, alloc: Global, back: Option<Ahead>, size: u64) -> Option<Ahead>
-        ensures { self.new ≡ self.old }
+        ensures same { self.new ≡ self.old }
+        ensures bounds { IfSome result (λ lent. (1048576 ≤ length lent) × (length lent + 2097152 ≤ size)) }
     {
-        if back.is_some() {
-            self.ahead = back;
+        if let (Some(back), Some(lent)) = (back, self.lent.take()) {
+            self.ahead = own(back, lent);
         }
-        if !self.may_lend(size) {
+        let came = self.front.len();
+        if !is_much(came, hashed_len(&self.ahead), size) {
             return None;
         }
+        // Where memory is wanting it counts as lent too, so that nobody is woken for it by each record.
+        self.lent = Some(came);
         let ahead = match self.ahead.take() {
             Some(ahead) => ahead,
             None => Ahead::new(alloc, size as usize).ok()?,
@@ -288,6 +322,7 @@ impl Slots {
             lens,
             apart,
             ahead: _ahead,
+            lent: _lent,
         } = self;
         if are_in_front(&lens, &apart) {
             return Ok(Items::from_vec(front));

@@ -27,7 +27,7 @@ fn may_lend_of(stage: &Stage) -> bool {
 }
 
 impl ClientState {
-    /// Whether so much came of a file that some should be lent.
+    /// Whether so much came of a file that some should be lent. Not while some is.
     pub fn may_lend(&self) -> bool {
         match &self.task {
             Some(task) => may_lend_of(&task.stage),

@@ -1,5 +1,5 @@
 -- What the client of a mount goes through, from its beginning to its end: turns, each a line, a put that goes on, a connection, a record or the end of a link.
-use Rattle.std.specs.Prelude.{◌≡◌, ℕ, List, Option, None}
+use Rattle.std.specs.Prelude.{◌≡◌, ℕ, List, Option, None, Bool}
 use Rattle.record_ends.specs.declared.end.End.{End}
 use Rattle.client_state.specs.State.{start_with}
 use Rattle.wire.specs.declared.message.TheConstants.{LBFS_SPOKEN}
@@ -17,7 +17,7 @@ nothing_done drift host = record { host = host; client = start_with drift LBFS_S
 -- a mount begins so, or with the items of a cache file
 pub data Begun (drift : ℕ) (m : Mount) : Type 0 where
   bare : (host : Host) → m ≡ nothing_done drift host → Begun drift m
-  loaded : (host : Host) (name : List ℕ) (told : Option Answer) → Loads (nothing_done drift host) name told m → Begun drift m
+  loaded : (host : Host) (name : List ℕ) (told : Option Answer) (replaces : Bool) → Loads (nothing_done drift host) name told replaces m → Begun drift m
 
 -- and goes on by turns. The answers to a line are counted, from none as it begins; where a line ends, what is kept is bounded (Sends of Turns)
 pub data Course (drift most : ℕ) : (listed : ℕ) → Mount → Type 0 where

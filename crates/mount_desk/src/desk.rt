@@ -379,11 +379,15 @@ impl<F: Files + Drop, L: Link + Drop> Desk<F, L> {
             × (self.new.starved ≡ self.old.starved) × (self.new.listed ≡ self.old.listed)) ⊎
             ((self.new.listed ≡ counted self.old.listed bytes.now)
             × (self.new.starved ≡ false
-            → Hears self.old.most self.old.listed self.old.mounted bytes.now now self.new.mounted)) }
+            → Hears self.old.most self.old.listed self.old.mounted bytes.now now
+            self.new.mounted)) }
         ensures count { stands self.old.connection connection self.old.link self.old.starved ≡ true → self.new.listed ≡ counted self.old.listed bytes.now }
         ensures out { stands self.old.connection connection self.old.link self.old.starved
             ≡ true → self.new.starved ≡ false
-            → HearsOut L.held L.faults self.old.most self.old.listed self.old.mounted bytes.now now self.new.mounted (outlet self.old.link self.old.waits self.old.line) (outlet self.new.link self.new.waits self.new.line) more }
+            → HearsOut L.held L.faults self.old.most self.old.listed self.old.mounted bytes.now
+            now self.new.mounted
+            (outlet self.old.link self.old.waits self.old.line)
+            (outlet self.new.link self.new.waits self.new.line) more }
         ensures goes_on { result ≡ stands self.new.connection connection self.new.link self.new.starved }
         ensures fed { self.new.starved ≡ false → self.old.starved ≡ false }
         ensures number { (self.new.connection ≡ self.old.connection) × (self.new.most ≡ self.old.most) }
