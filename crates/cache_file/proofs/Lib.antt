@@ -1,3 +1,4 @@
 mod Chunks
 mod Filling
+mod Looks
 mod Reading

@@ -1,4 +1,5 @@
 pub mod Filling
 pub mod Items
+pub mod Looks
 pub mod Saved
 pub mod Rows

@@ -3,13 +3,14 @@
 //! to it.
 #![tactic(auto)]
 
-ghost use Rattle.std.specs.Prelude.{◌≡◌, List, ℕ, IfOk};
+ghost use Rattle.std.specs.Prelude.{◌≡◌, ◌↔◌, List, ℕ, IfOk, true};
 ghost use Rattle.client_cache.specs.Cache.{Entries};
 ghost use Rattle.xdr_codec.specs.Format.{IsBytes};
-ghost use Rattle.cache_file.specs.Items.{AreItems, items, spelled};
+ghost use Rattle.cache_file.specs.Items.{AreItems, IsCache, is_cache, items, spelled};
 ghost use Rattle.cache_file.specs.Saved.{saved};
 
 mod loading;
+mod looking;
 mod saving;
 
 use client_cache::cache::Cache;
@@ -27,6 +28,14 @@ pub fn load(alloc: Global, bytes: &[u8]) -> Result<Vec<Bytes>, AllocError>
     loading::items(alloc, &mut reader, bytes.len())
 }
 
+/// Whether bytes are taken for a cache file's. The format has no mark of its own: there are none, or a whole
+/// item stands in front. So whoever replaces a cache file can leave alone what is none. It takes no memory.
+pub fn is_cache(bytes: &[u8]) -> bool
+    ensures { result ≡ is_cache bytes.now }
+{
+    bytes.is_empty() || looking::has_item(bytes)
+}
+
 /// What is kept in a cache file of a client's cache: the chunks of the contents that are kept, the most
 /// recent first and each once, as many from the first on as take at most 67,108,864 bytes. `load` gives them
 /// again. The one error is running out of memory.
@@ -40,8 +49,10 @@ pub fn save(alloc: Global, cache: &Cache) -> Result<Bytes, AllocError>
     Ok(saving.done())
 }
 
-/// What `items` finds is the longest list of whole items that begins the bytes, and no other list is.
+/// What `items` finds is the longest list of whole items that begins the bytes, and no other list is. What is
+/// taken for a cache file begins with a whole item, or is empty.
 pub fn items_law()
     ensures found { (bytes : List ℕ) → IsBytes bytes → AreItems bytes (items bytes) }
     ensures only { (bytes : List ℕ) (xs : List (List ℕ)) → IsBytes bytes → AreItems bytes xs → xs ≡ items bytes }
+    ensures looks { (bytes : List ℕ) → IsBytes bytes → (is_cache bytes ≡ true) ↔ IsCache bytes }
 {}

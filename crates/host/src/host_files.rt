@@ -122,6 +122,10 @@ impl<R: HostDisk + Eprint> Files for HostFiles<R> {
         }
     }
 
+    fn leave(&self, name: &str) {
+        tell(&self.rt, &Note::Left { name });
+    }
+
     fn put(&mut self, alloc: Global, name: &str, bytes: &[u8]) -> Result<(), GiveError> {
         let mark = self.mark;
         let beside = format!(in alloc; "~{mark}")?;

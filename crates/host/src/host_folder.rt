@@ -20,6 +20,9 @@ use std::{fs, io};
 /// The most bytes that the names of a folder may have, each with a byte behind it.
 const LISTING_MOST: usize = 1_073_741_824;
 
+/// How many names are tried for a file that is being written.
+const TRIES: u32 = 1_024;
+
 /// The files and folders of the host.
 #[derive(Drop)]
 pub struct HostFolder<R> {
@@ -29,18 +32,34 @@ pub struct HostFolder<R> {
 }
 
 impl<R> HostFolder<R> {
-    /// The host's files. The mark is no other program's at the same time, as the process's number, and
-    /// the number no other thread's in the program: the file that is being written is named after them.
+    /// The host's files. The mark is the process's number, and the number another one for each thread: the file
+    /// that is being written is named after them, or after the next number that is free in its folder.
     pub fn new(rt: R, mark: u32, number: u32) -> HostFolder<R> {
         HostFolder { rt, mark, number }
     }
+}
 
-    /// The file beside a target.
-    fn beside(&self, alloc: Global, target: &Target) -> Result<String, LocalFault> {
-        match beside(alloc, target.path.as_str(), self.mark, self.number) {
-            Ok(path) => Ok(path),
-            Err(AllocError) => Err(LocalFault::Memory),
+impl<R: HostDisk> HostFolder<R> {
+    /// A new file beside a target, and its path. A name may be taken by what a process left that had the same
+    /// number, or by what one writes in another container: then it is the next one.
+    fn make_beside(
+        &mut self,
+        alloc: Global,
+        target: &Target,
+    ) -> Result<(String, R::File), LocalFault> {
+        for _try in 0..TRIES {
+            let Ok(path) = beside(alloc, target.path.as_str(), self.mark, self.number) else {
+                return Err(LocalFault::Memory);
+            };
+            match create(&self.rt, path.as_str()) {
+                Ok(file) => return Ok((path, file)),
+                Err(error) if error.kind() == ErrorKind::AlreadyExists => {
+                    self.number = self.number.saturating_add(1);
+                }
+                Err(error) => return Err(unwritten(&error)),
+            }
         }
+        Err(LocalFault::Exists)
     }
 }
 
@@ -134,7 +153,7 @@ fn copied(alloc: Global, path: &str) -> Result<String, LocalFault> {
 /// A path at which nothing is there yet.
 fn new_target<R: HostDisk>(rt: &R, alloc: Global, path: &str) -> Result<Target, LocalFault> {
     match rt.symlink_metadata(path) {
-        Ok(_link) => Err(LocalFault::Missing),
+        Ok(_link) => Err(LocalFault::Nowhere),
         Err(_) => Ok(Target {
             path: copied(alloc, path)?,
             kept: None,
@@ -142,7 +161,7 @@ fn new_target<R: HostDisk>(rt: &R, alloc: Global, path: &str) -> Result<Target, 
     }
 }
 
-/// The file beside a target, in its folder.
+/// The path of a file beside a target, in its folder.
 fn beside(alloc: Global, target: &str, mark: u32, number: u32) -> Result<String, AllocError> {
     let mut path = String::new(alloc);
     if let Some((folder, _name)) = target.rsplit_once('/') {
@@ -170,16 +189,30 @@ fn keep_permissions<F: OpenFile>(file: &F, target: &Target) -> io::Result<()> {
     }
 }
 
-/// Writes the file beside, with the permissions of the one that it is to replace, and puts it in its
+/// Writes the new file beside, with the permissions of the one that it is to replace, and puts it in its
 /// place. It has them before its bytes, so that nobody reads these who may not; the system may take some
 /// away as it is written.
-fn replace<R: HostDisk>(rt: &R, beside: &str, target: &Target, bytes: &[u8]) -> io::Result<()> {
-    let mut file = create(rt, beside)?;
+fn replace<R: HostDisk>(
+    rt: &R,
+    mut file: R::File,
+    beside: &str,
+    target: &Target,
+    bytes: &[u8],
+) -> io::Result<()> {
     keep_permissions(&file, target)?;
     file.write_all(bytes)?;
     keep_permissions(&file, target)?;
     drop(file);
     fs::rename(rt, beside, target.path.as_str())
+}
+
+/// What a path stands for at which nothing was found: where links are followed, one may lead there.
+fn missing_kind<R: HostDisk>(rt: &R, path: &str, follows: bool) -> Kind {
+    if follows && rt.symlink_metadata(path).is_ok() {
+        Kind::Hidden(LocalFault::Nowhere)
+    } else {
+        Kind::Missing
+    }
 }
 
 /// What a path stands for, by what the system tells of it.
@@ -236,13 +269,13 @@ pub struct HostFolders<R> {
 }
 
 impl<R> HostFolders<R> {
-    /// The host's files. The mark is no other program's at the same time, as the process's number.
+    /// The host's files. The mark is the process's number.
     pub fn new(rt: R, mark: u32) -> HostFolders<R> {
         HostFolders { rt, mark }
     }
 }
 
-impl<R: HostDisk + HostTime + Copy> Folders for HostFolders<R> {
+impl<R: HostDisk + HostTime + Eprint + Copy> Folders for HostFolders<R> {
     type F = HostFolder<R>;
 
     fn folder(&self, number: u32) -> HostFolder<R> {
@@ -250,7 +283,7 @@ impl<R: HostDisk + HostTime + Copy> Folders for HostFolders<R> {
     }
 }
 
-impl<R: HostDisk + HostTime> Folder for HostFolder<R> {
+impl<R: HostDisk + HostTime + Eprint> Folder for HostFolder<R> {
     ghost finds = { λ _ _ _ _. Unit {0} };
 
     ghost reads = { λ _ _ _ _. Unit {0} };
@@ -273,7 +306,9 @@ impl<R: HostDisk + HostTime> Folder for HostFolder<R> {
         };
         match found {
             Ok(facts) => kind_of(&facts),
-            Err(error) if error.kind() == ErrorKind::NotFound => Kind::Missing,
+            Err(error) if error.kind() == ErrorKind::NotFound => {
+                missing_kind(&self.rt, path, follows)
+            }
             Err(error) => Kind::Hidden(fault_of(&error)),
         }
     }
@@ -286,6 +321,10 @@ impl<R: HostDisk + HostTime> Folder for HostFolder<R> {
         if before.is_dir() {
             return Err(LocalFault::IsFolder);
         }
+        // A pipe would be waited for.
+        if !before.is_file() {
+            return Err(LocalFault::Odd);
+        }
         let bytes = read_file(&self.rt, alloc, path)?;
         match self.rt.metadata(path) {
             Ok(after) if is_same(&before, &after) => Ok(bytes),
@@ -295,21 +334,16 @@ impl<R: HostDisk + HostTime> Folder for HostFolder<R> {
 
     fn try_write(&mut self, alloc: Global, path: &str) -> Result<(), LocalFault> {
         let target = target_of(&self.rt, alloc, path)?;
-        let beside = self.beside(alloc, &target)?;
-        match create(&self.rt, beside.as_str()) {
-            Ok(file) => {
-                drop(file);
-                let _gone = fs::remove_file(&self.rt, beside.as_str());
-                Ok(())
-            }
-            Err(error) => Err(unwritten(&error)),
-        }
+        let (beside, file) = self.make_beside(alloc, &target)?;
+        drop(file);
+        let _gone = fs::remove_file(&self.rt, beside.as_str());
+        Ok(())
     }
 
     fn write(&mut self, alloc: Global, path: &str, bytes: &[u8]) -> Result<(), LocalFault> {
         let target = target_of(&self.rt, alloc, path)?;
-        let beside = self.beside(alloc, &target)?;
-        match replace(&self.rt, beside.as_str(), &target, bytes) {
+        let (beside, file) = self.make_beside(alloc, &target)?;
+        match replace(&self.rt, file, beside.as_str(), &target, bytes) {
             Ok(()) => Ok(()),
             Err(error) => {
                 let _gone = fs::remove_file(&self.rt, beside.as_str());
@@ -336,7 +370,7 @@ impl<R: HostDisk + HostTime> Folder for HostFolder<R> {
     fn clear(&mut self, alloc: Global, path: &str) {
         if let Ok(names) = self.names(alloc, path) {
             for name in names.as_slice() {
-                clear_name(&self.rt, alloc, path, name.as_slice());
+                clear_name(&self.rt, alloc, self.mark, path, name.as_slice());
             }
         }
     }

@@ -1,6 +1,8 @@
 //! The files that fetches which were stopped left in a folder: which of them go.
 
+use crate::notes::{Note, tell};
 use shell_words::local::text_of;
+use shell_words::quoting::quoted;
 use shell_words::temporary::writer_of;
 use std::alloc::Global;
 use std::fs;
@@ -34,16 +36,43 @@ fn is_still<R: HostTime>(rt: &R, facts: &Metadata) -> bool {
     }
 }
 
+/// Whether a process other than this one, which is `own`, may be running. In a container each run may have the same
+/// number, and its own files are none that it left: nothing of them is still for so long.
+fn may_write<R: HostDisk>(rt: &R, alloc: Global, own: u32, process: u64) -> bool {
+    process != u64::from(own) && may_run(rt, alloc, process)
+}
+
 /// Whether a file of a process was left by it.
-fn is_left<R: HostDisk + HostTime>(rt: &R, alloc: Global, path: &str, process: u64) -> bool {
+fn is_left<R: HostDisk + HostTime>(
+    rt: &R,
+    alloc: Global,
+    own: u32,
+    path: &str,
+    process: u64,
+) -> bool {
     match rt.symlink_metadata(path) {
-        Ok(facts) => facts.is_file() && is_still(rt, &facts) && !may_run(rt, alloc, process),
+        Ok(facts) => facts.is_file() && is_still(rt, &facts) && !may_write(rt, alloc, own, process),
         Err(_) => false,
     }
 }
 
-/// What has a name in a folder goes, where a fetch that was stopped left it.
-pub(crate) fn clear_name<R: HostDisk + HostTime>(rt: &R, alloc: Global, folder: &str, name: &[u8]) {
+/// Tells that a file went: somebody may have given it such a name himself.
+fn tell_gone<R: Eprint>(rt: &R, alloc: Global, path: &str) {
+    if let Ok(shown) = quoted(alloc, path.as_bytes()) {
+        if let Some(path) = text_of(shown.as_slice()) {
+            tell(rt, &Note::LeftOver { path });
+        }
+    }
+}
+
+/// What has a name in a folder goes, where a fetch that was stopped left it; this process has the number `own`.
+pub(crate) fn clear_name<R: HostDisk + HostTime + Eprint>(
+    rt: &R,
+    alloc: Global,
+    own: u32,
+    folder: &str,
+    name: &[u8],
+) {
     let Some(process) = writer_of(name) else {
         return;
     };
@@ -51,8 +80,9 @@ pub(crate) fn clear_name<R: HostDisk + HostTime>(rt: &R, alloc: Global, folder: 
         return;
     };
     if let Ok(path) = format!(in alloc; "{folder}/{name}") {
-        if is_left(rt, alloc, path.as_str(), process) {
-            let _gone = fs::remove_file(rt, path.as_str());
+        let goes = is_left(rt, alloc, own, path.as_str(), process);
+        if goes && fs::remove_file(rt, path.as_str()).is_ok() {
+            tell_gone(rt, alloc, path.as_str());
         }
     }
 }

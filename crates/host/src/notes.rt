@@ -7,7 +7,7 @@ use std::{fmt, io};
 use thiserror::Error;
 
 /// What a person is told.
-#[derive(Drop, Error)]
+#[derive(Clone, Copy, Error)]
 pub enum Note<'a> {
     #[error("standard input can't be read: {0}")]
     Input(io::Error),
@@ -20,6 +20,10 @@ pub enum Note<'a> {
     },
     #[error("{name} is no regular file")]
     NotRegular {
+        name: &'a str,
+    },
+    #[error("{name} isn't read as a cache file, and stays as it is (name another one, or remove it)")]
+    Left {
         name: &'a str,
     },
     #[error("{name} can't be written: {why}")]
@@ -37,7 +41,7 @@ pub enum Note<'a> {
         port: u16,
         why: io::Error,
     },
-    #[error("127.0.0.1, port {port}: no server answers there (is lbfs share, or ssh -L, running?)")]
+    #[error("127.0.0.1, port {port}: no server answers (is lbfs share, or ssh -L, running yet?)")]
     Unreached {
         port: u16,
     },
@@ -50,11 +54,15 @@ pub enum Note<'a> {
     Ended {
         port: u16,
     },
+    #[error("{path}: removed: a get that is stopped leaves such names")]
+    LeftOver {
+        path: &'a str,
+    },
     #[error("{place}: loading")]
     Loading {
         place: &'a str,
     },
-    #[error("{place}: leases of the run before may last {more} ms longer: waiting (not with --term {before})")]
+    #[error("{place}: waiting {more} ms for leases of the run before (not with --term {before})")]
     Waiting {
         place: &'a str,
         more: u64,

@@ -1,10 +1,12 @@
 -- The cache file of a mount: its items are the client's, and what the client keeps is written to it.
-use Rattle.std.specs.Prelude.{◌≡◌, ◌⊎◌, ℕ, List, Option, Some, None, Result, Ok, Err, Bool}
-use Rattle.cache_file.specs.Items.{items, spelled}
+use Rattle.std.specs.Prelude.{◌≡◌, ◌⊎◌, ℕ, List, Option, Some, None, Result, Ok, Err, Bool, not}
+use Rattle.cache_file.specs.Items.{is_cache, items, spelled}
 use Rattle.cache_file.specs.Saved.{saved}
 use Rattle.lb_base.specs.declared.sink.GiveError.{GiveError}
 use Rattle.lb_base.specs.declared.sink.GiveError.TheVariants as give
+use Rattle.links.specs.Files.{is_there}
 use Rattle.links.specs.declared.files.FilesError.{FilesError}
+use Rattle.links.specs.declared.files.HostFile.{HostFile}
 use Rattle.client_state.specs.Bounding.{kept_within}
 use Rattle.client_state.specs.Hints.{Warms}
 use Rattle.client_state.specs.State.{State}
@@ -14,6 +16,19 @@ use Rattle.lbfs_client.specs.Mounting.{Mount, unread_answer}
 use Rattle.lbfs_client.specs.Walks.{answer_of}
 use Rattle.lbfs_client.specs.declared.answer.Answer.{Answer}
 use Rattle.lbfs_client.specs.declared.answer.Answer.TheVariants as answer
+
+-- ---- what stands there is looked at
+
+-- whether it may be replaced, by whether a file is there and what was read: what is no cache file stays, and so does a file that can't be read
+abbrev pub may_replace : (there : Bool) → Result (List ℕ) FilesError → Bool
+may_replace there (Ok bytes) = is_cache bytes
+may_replace there (Err e) = not there
+
+pub record Looks (old : Host) (name : List ℕ) (read : Result (List ℕ) FilesError) (replaces : Bool) (new : Host) : Type 0 where
+  pub there : Bool
+  pub there_is : (held : List HostFile) → old.files ≡ Some held → there ≡ is_there name held
+  pub reads : HasRead old name read new
+  pub replaces_is : replaces ≡ may_replace there read
 
 -- ---- it is read
 
@@ -27,9 +42,9 @@ abbrev pub LoadsRead : State → Result (List ℕ) FilesError → Option Answer 
 LoadsRead c (Ok bytes) told c' = WarmedBy c bytes told c'
 LoadsRead c (Err e) told c' = (told ≡ Some (unread_answer e)) × (c' ≡ c)
 
-pub record Loads (m : Mount) (name : List ℕ) (told : Option Answer) (m' : Mount) : Type 0 where
+pub record Loads (m : Mount) (name : List ℕ) (told : Option Answer) (replaces : Bool) (m' : Mount) : Type 0 where
   pub read : Result (List ℕ) FilesError
-  pub reads : HasRead m.host name read m'.host
+  pub looks : Looks m.host name read replaces m'.host
   pub walk_is : m'.walk ≡ m.walk
   pub loads : LoadsRead m.client read told m'.client
 

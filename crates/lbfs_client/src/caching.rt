@@ -1,7 +1,7 @@
 //! The cache file of a mount, and how much the client keeps: `specs/Caching.antt` says what comes of it.
 
 ghost use Rattle.std.specs.Prelude.{◌≡◌};
-ghost use Rattle.lbfs_client.specs.Caching.{LoadsRead, SavesTo, WarmedBy, Writes, unwritten_answer};
+ghost use Rattle.lbfs_client.specs.Caching.{LoadsRead, Looks, SavesTo, WarmedBy, Writes, may_replace, unwritten_answer};
 ghost use Rattle.lbfs_client.specs.Host.{HasRead, HasWritten};
 
 use crate::answer::Answer;
@@ -52,10 +52,43 @@ fn unwritten_answer(wrote: Result<(), GiveError>) -> Option<Answer>
 }
 
 /// Reads a file of the host.
-pub(crate) fn read<F: Files>(alloc: Global, files: &mut F, name: &str) -> Result<Bytes, FilesError>
+fn read<F: Files>(alloc: Global, files: &mut F, name: &str) -> Result<Bytes, FilesError>
     ensures { HasRead (record { files = F.files files.old; faults = F.faults files.old }) name.now result (record { files = F.files files.new; faults = F.faults files.new }) }
 {
     files.get(alloc, name)
+}
+
+/// Whether what stands where a cache file is to be may be replaced.
+fn may_replace(there: bool, read: &Result<Bytes, FilesError>) -> bool
+    ensures { result ≡ may_replace there read.now }
+{
+    match read {
+        Ok(bytes) => cache_file::is_cache(bytes.as_slice()),
+        Err(_) => !there,
+    }
+}
+
+/// Whoever looks on is told of a file that stays.
+fn tell_left<F: Files>(files: &F, name: &str, replaces: bool) {
+    if !replaces {
+        files.leave(name);
+    }
+}
+
+/// Reads what stands where a cache file is to be, and answers whether it may be replaced. Where it may not be
+/// whoever looks on is told.
+pub(crate) fn look<F: Files>(
+    alloc: Global,
+    files: &mut F,
+    name: &str,
+) -> (Result<Bytes, FilesError>, bool)
+    ensures { Looks (record { files = F.files files.old; faults = F.faults files.old }) name.now result.0 result.1 (record { files = F.files files.new; faults = F.faults files.new }) }
+{
+    let there = files.has(name);
+    let bytes = read(alloc, files, name);
+    let replaces = may_replace(there, &bytes);
+    tell_left(files, name, replaces);
+    (bytes, replaces)
 }
 
 /// Puts bytes into a file of the host.

@@ -10,22 +10,24 @@ ghost use Rattle.wire.specs.declared.message.TheConstants.{LBFS_SPOKEN};
 ghost use Rattle.lbfs_client.specs.Mounting.{Runs, Continues, Receives, Stops, joined_step, read_bytes};
 
 use crate::answer::Answer;
-use crate::caching::{self, load_read, save_kept};
+use crate::caching::{load_read, look, save_kept};
 use crate::fetching::read;
 use crate::hinting::{closing, has_fresh, offer_read};
 use crate::line::{MountLine, Place};
 use crate::local::LocalName;
-use crate::running::{go_on, joined, read_bytes, run};
-use crate::said::Said;
+use crate::running::{get, go_on_with, join, joined, plain, put, read_bytes};
+use crate::said::{Said, sends};
 use crate::walk::Walk;
-use crate::walking::{receive, stop};
+use crate::walking::{hear, lose, receive};
 use cut_bytes::CutBytes;
 use cut_bytes::ahead::Ahead;
+use lb_base::items::Items;
 use links::files::Files;
 use open_close::client::Client;
 use record_ends::end::End;
 use std::alloc::{AllocError, Global};
 use std::marker::Model;
+use wire::fault::WireFault;
 use wire::message::LBFS_SPOKEN;
 
 /// A client, the files of the host, and what the line under way has left to do.
@@ -81,14 +83,25 @@ impl<F: Files> Mounted<F> {
     pub fn line(&mut self, alloc: Global, line: MountLine, now: u64) -> Result<Said, AllocError>
         ensures { IfOk result (λ said. Runs self.old line now self.new said) }
     {
-        run(
-            alloc,
-            &mut self.files,
-            &mut self.client,
-            &mut self.walk,
-            line,
-            now,
-        )
+        match line {
+            MountLine::Plain(command) => plain(alloc, &mut self.client, command, now),
+            MountLine::Put { local, place } => {
+                let said = put(alloc, &mut self.files, &mut self.walk, &local, place);
+                drop(local);
+                said
+            }
+            MountLine::Get { place, local } => get(
+                alloc,
+                &mut self.files,
+                &mut self.client,
+                &mut self.walk,
+                place,
+                local,
+                now,
+            ),
+            MountLine::Join => join(alloc, &self.client, &mut self.walk),
+            MountLine::Skipped => Ok(sends(Items::new(alloc))),
+        }
     }
 
     /// The bytes of a put's file of the host, which was read: the line waits with them until it is to go on
@@ -110,14 +123,18 @@ impl<F: Files> Mounted<F> {
     ) -> Result<Said, AllocError>
         ensures { IfOk result (λ said. Continues self.old now self.new said) }
     {
-        go_on(
-            alloc,
-            &mut self.files,
-            &mut self.client,
-            &mut self.walk,
-            found,
-            now,
-        )
+        match self.walk.take() {
+            Some(held) => go_on_with(
+                alloc,
+                &mut self.files,
+                &mut self.client,
+                &mut self.walk,
+                held,
+                found,
+                now,
+            ),
+            None => Ok(sends(Items::new(alloc))),
+        }
     }
 
     /// A record came from the other end, with which the answers to the line under way have so many bytes.
@@ -146,14 +163,31 @@ impl<F: Files> Mounted<F> {
     pub fn ended(&mut self, alloc: Global, end: End, now: u64) -> Result<Said, AllocError>
         ensures { IfOk result (λ said. Stops self.old end now self.new said) }
     {
-        stop(
-            alloc,
-            &mut self.files,
-            &mut self.client,
-            &mut self.walk,
-            end,
-            now,
-        )
+        match end {
+            End::InputEnd => lose(
+                alloc,
+                &mut self.files,
+                &mut self.client,
+                &mut self.walk,
+                now,
+            ),
+            End::Failed => lose(
+                alloc,
+                &mut self.files,
+                &mut self.client,
+                &mut self.walk,
+                now,
+            ),
+            End::Spoilt => hear(
+                alloc,
+                &mut self.files,
+                &mut self.client,
+                &mut self.walk,
+                Err(WireFault::NotRpc { at: 0 }),
+                now,
+            ),
+            End::Memory => Err(AllocError),
+        }
     }
 
     /// A connection is joined.
@@ -210,13 +244,14 @@ impl<F: Files> Mounted<F> {
 
     /// The cache file of this name is read, and its items are the client's: hints, which nobody trusts. What
     /// is answered is to be said: that it couldn't be read, is too large, or memory was wanting; the client
-    /// goes on without then.
+    /// goes on without then. With it comes whether what stands there may be replaced.
     #[tactic(auto, using(crate::proofs::Cachings::loaded))]
-    pub fn load(&mut self, alloc: Global, name: &str) -> Option<Answer>
-        ensures { Loads self.old name.now result self.new }
+    pub fn load(&mut self, alloc: Global, name: &str) -> (Option<Answer>, bool)
+        ensures { Loads self.old name.now result.0 result.1 self.new }
     {
-        let bytes = caching::read(alloc, &mut self.files, name);
-        load_read(alloc, &mut self.client, bytes)
+        let (read, replaces) = look(alloc, &mut self.files, name);
+        let told = load_read(alloc, &mut self.client, read);
+        (told, replaces)
     }
 
     /// What the client keeps is written to the cache file of this name, which is as it was or new. What is

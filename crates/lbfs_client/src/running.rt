@@ -1,15 +1,15 @@
-//! What a line of the script comes to: `Runs` of `specs/Mounting.antt`, over the fields of a mounted
-//! client; and what becomes of it once a connection is joined.
+//! What each kind of line of the script comes to: `specs/Mounting.antt`, over the fields of a mounted client;
+//! and what becomes of it once a connection is joined.
 
 ghost use Rattle.std.specs.Prelude.{◌≡◌, IfOk, Some, None};
 ghost use Rattle.std.specs.Option.{option_copied};
-ghost use Rattle.lbfs_client.specs.Mounting.{Commands, Begins, unread_answer, PutsRead, PutLine, GoesOn, read_bytes, GetLine, JoinLine, Runs, is_joining, joined_walk};
+ghost use Rattle.lbfs_client.specs.Mounting.{Commands, Begins, unread_answer, PutsRead, PutLine, GoesOn, read_bytes, GetLine, JoinLine, is_joining, joined_walk};
 ghost use Rattle.client_state.specs.Ending.{joined};
 
 use crate::answer::Answer;
 use crate::commanding::go;
 use crate::fetching::read;
-use crate::line::{MountLine, Place};
+use crate::line::Place;
 use crate::local::LocalName;
 use crate::said::{Said, says, says_step, sends};
 use crate::walk::Walk;
@@ -24,7 +24,12 @@ use shared_bytes::SharedBytes;
 use std::alloc::{AllocError, Global};
 
 /// A command that is all of its line.
-fn plain(alloc: Global, client: &mut Client, command: Command, now: u64) -> Result<Said, AllocError>
+pub(crate) fn plain(
+    alloc: Global,
+    client: &mut Client,
+    command: Command,
+    now: u64,
+) -> Result<Said, AllocError>
     ensures { IfOk result (λ said. Commands client.old command now client.new said) }
 {
     let mut send = Items::new(alloc);
@@ -110,7 +115,7 @@ fn put_read(
 }
 
 /// `put LOCAL PLACE`.
-fn put<F: Files>(
+pub(crate) fn put<F: Files>(
     alloc: Global,
     files: &mut F,
     walk: &mut Option<Walk>,
@@ -133,7 +138,7 @@ fn put<F: Files>(
 }
 
 /// A put that waits goes on, with what was found of its bytes ahead.
-fn go_on_with<F: Files>(
+pub(crate) fn go_on_with<F: Files>(
     alloc: Global,
     files: &mut F,
     client: &mut Client,
@@ -192,36 +197,6 @@ fn with_found(bytes: CutBytes, found: Option<CutBytes>) -> CutBytes
     }
 }
 
-/// A put whose file of the host was read goes on, where one waits for that.
-pub(crate) fn go_on<F: Files>(
-    alloc: Global,
-    files: &mut F,
-    client: &mut Client,
-    walk: &mut Option<Walk>,
-    found: Option<CutBytes>,
-    now: u64,
-) -> Result<Said, AllocError>
-    ensures { IfOk result (λ said.
-        GoesOn (record {
-          host = record {
-            files = F.files files.old;
-            faults = F.faults files.old;
-          };
-          client = client.old;
-          walk = walk.old;
-        }) walk.old now
-        (record {
-          host = record { files = F.files files.new; faults = F.faults files.new };
-          client = client.new;
-          walk = walk.new;
-        }) said) }
-{
-    match walk.take() {
-        Some(held) => go_on_with(alloc, files, client, walk, held, found, now),
-        None => Ok(sends(Items::new(alloc))),
-    }
-}
-
 /// The bytes of a put that waits to go on.
 pub(crate) fn read_bytes(walk: &Option<Walk>) -> Option<&CutBytes>
     ensures { option_copied result ≡ read_bytes walk.now }
@@ -233,7 +208,7 @@ pub(crate) fn read_bytes(walk: &Option<Walk>) -> Option<&CutBytes>
 }
 
 /// `get PLACE LOCAL`.
-fn get<F: Files>(
+pub(crate) fn get<F: Files>(
     alloc: Global,
     files: &mut F,
     client: &mut Client,
@@ -267,7 +242,11 @@ fn get<F: Files>(
 }
 
 /// `join`.
-fn join(alloc: Global, client: &Client, walk: &mut Option<Walk>) -> Result<Said, AllocError>
+pub(crate) fn join(
+    alloc: Global,
+    client: &Client,
+    walk: &mut Option<Walk>,
+) -> Result<Said, AllocError>
     ensures { IfOk result (λ said. JoinLine client.now.linked walk.old walk.new said) }
 {
     if walk.is_some() {
@@ -278,40 +257,6 @@ fn join(alloc: Global, client: &Client, walk: &mut Option<Walk>) -> Result<Said,
     }
     *walk = Some(Walk::Joins);
     Ok(sends(Items::new(alloc)))
-}
-
-/// A line of the script.
-pub(crate) fn run<F: Files>(
-    alloc: Global,
-    files: &mut F,
-    client: &mut Client,
-    walk: &mut Option<Walk>,
-    line: MountLine,
-    now: u64,
-) -> Result<Said, AllocError>
-    ensures { IfOk result (λ said.
-        Runs (record {
-          host = record { files = F.files files.old; faults = F.faults files.old };
-          client = client.old;
-          walk = walk.old;
-        }) line now
-        (record {
-          host = record { files = F.files files.new; faults = F.faults files.new };
-          client = client.new;
-          walk = walk.new;
-        }) said) }
-{
-    match line {
-        MountLine::Plain(command) => plain(alloc, client, command, now),
-        MountLine::Put { local, place } => {
-            let said = put(alloc, files, walk, &local, place);
-            drop(local);
-            said
-        }
-        MountLine::Get { place, local } => get(alloc, files, client, walk, place, local, now),
-        MountLine::Join => join(alloc, client, walk),
-        MountLine::Skipped => Ok(sends(Items::new(alloc))),
-    }
 }
 
 /// Whether a line waits for a connection.

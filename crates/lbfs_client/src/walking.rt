@@ -2,7 +2,7 @@
 
 ghost use Rattle.std.specs.Prelude.{◌≡◌, IfOk, Some, None};
 ghost use Rattle.client_state.specs.Ending.{cut};
-ghost use Rattle.lbfs_client.specs.Mounting.{Walks, Leads, Hearing, Receives, Loses, Stops};
+ghost use Rattle.lbfs_client.specs.Mounting.{Walks, Leads, Hearing, Receives, Loses};
 ghost use Rattle.lbfs_client.specs.Walks.{noted};
 
 use crate::fetching::fetched;
@@ -14,7 +14,6 @@ use client_state::step::{ClientStep, Ended, Outcome};
 use lb_base::items::Items;
 use links::files::Files;
 use open_close::client::Client;
-use record_ends::end::End;
 use send_list::append;
 use std::alloc::{AllocError, Global};
 use wire::fault::WireFault;
@@ -154,7 +153,7 @@ fn follow<F: Files>(
 }
 
 /// Something came from the other end.
-fn hear<F: Files>(
+pub(crate) fn hear<F: Files>(
     alloc: Global,
     files: &mut F,
     client: &mut Client,
@@ -212,7 +211,7 @@ pub(crate) fn receive<F: Files>(
 }
 
 /// The connection is lost.
-fn lose<F: Files>(
+pub(crate) fn lose<F: Files>(
     alloc: Global,
     files: &mut F,
     client: &mut Client,
@@ -239,39 +238,4 @@ fn lose<F: Files>(
 {
     let step = client.cut(alloc);
     follow(alloc, files, client, walk, step, now)
-}
-
-/// The link has ended so.
-pub(crate) fn stop<F: Files>(
-    alloc: Global,
-    files: &mut F,
-    client: &mut Client,
-    walk: &mut Option<Walk>,
-    end: End,
-    now: u64,
-) -> Result<Said, AllocError>
-    ensures { IfOk result (λ said.
-        Stops (record {
-          host = record {
-            files = F.files files.old;
-            faults = F.faults files.old;
-          };
-          client = client.old;
-          walk = walk.old;
-        }) end now
-        (record {
-          host = record { files = F.files files.new; faults = F.faults files.new };
-          client = client.new;
-          walk = walk.new;
-        }) said) }
-{
-    match end {
-        End::InputEnd => lose(alloc, files, client, walk, now),
-        End::Failed => lose(alloc, files, client, walk, now),
-        End::Spoilt => {
-            let spoilt = Err(WireFault::NotRpc { at: 0 });
-            hear(alloc, files, client, walk, spoilt, now)
-        }
-        End::Memory => Err(AllocError),
-    }
 }

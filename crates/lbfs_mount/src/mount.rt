@@ -2,14 +2,12 @@
 
 ghost use Rattle.std.specs.Prelude.{◌≡◌, ℕ, ◌≤◌, ◌⊎◌, Option, OnOk, IfSome, IsErrOf, is_some};
 ghost use Rattle.lb_base.specs.Causes.{Rose};
-ghost use Rattle.lbfs_client.specs.Caching.{Saves, within};
 ghost use Rattle.lbfs_client.specs.Host.{Host};
-ghost use Rattle.lbfs_client.specs.declared.answer.Answer.{Answer};
 ghost use Rattle.mount_desk.specs.Course.{nothing_done};
 ghost use Rattle.lbfs_mount.specs.Cached.{EndsAll, IsBadLineAll, IsDoneAll, SavesAfter, WritesAll};
 ghost use Rattle.lbfs_mount.specs.Heard.{SaysAt, SaysRun};
 ghost use Rattle.lbfs_mount.specs.Mounts.{Ends, IsFaulty, IsTooLong};
-ghost use Rattle.lbfs_mount.specs.Saved.{IsSaved, known_end};
+ghost use Rattle.lbfs_mount.specs.Saved.{IsKept, SavesIf, known_end};
 ghost use Rattle.lbfs_mount.specs.declared.mount_error.MountError.TheVariants as errors;
 
 use crate::connecting::Dialler;
@@ -123,21 +121,23 @@ fn known_end(ended: Result<(), MountError>, known: bool) -> Result<(), MountErro
     }
 }
 
-/// The cache file is written behind a script that was read to its end, where there is one.
+/// The cache file is written behind a script that was read to its end, where there is one and what stands there
+/// may be replaced.
 fn save_after<F: Files, K: Sink>(
     alloc: Global,
     ended: Result<(), MountError>,
     mounted: &mut Mounted<F>,
     cache: Option<&str>,
+    replaces: bool,
     keep: u64,
     sink: &mut K,
 ) -> Result<(), MountError>
-    ensures wrote { OnOk result (OnOk ended (IfSome cache.entry (λ name. (told : Option Answer) × Saves (within keep mounted.old) name.now told mounted.new))) }
+    ensures wrote { OnOk result (OnOk ended (IfSome cache.entry (λ name. SavesIf replaces keep mounted.old name.now mounted.new))) }
     ensures saves { SavesAfter (is_some cache.entry) ended (K.held sink.old) (K.held sink.new) (K.faults sink.old) (K.faults sink.new) result }
     ensures later { K.faults sink.old ≤ K.faults sink.new }
 {
     match ended {
-        Ok(()) => save(alloc, mounted, cache, keep, sink),
+        Ok(()) => save(alloc, mounted, cache, replaces, keep, sink),
         Err(why) => Err(why),
     }
 }
@@ -166,7 +166,7 @@ fn run_cached<
 where
     N::L: Drop + Send,
     requires { (host : Host) × (mounted ≡ nothing_done drift host) }
-    ensures saved { OnOk result.0 (IfSome cache.entry (λ name. ∥ IsSaved drift keep name.now (record { files = F.files result.3; faults = F.faults result.3 }) ∥₁)) }
+    ensures saved { OnOk result.0 (IfSome cache.entry (λ name. ∥ IsKept drift keep name.now mounted.host (record { files = F.files result.3; faults = F.faults result.3 }) ∥₁)) }
     ensures ends { EndsAll (SaysAt F N.L.held N.L.faults) (is_some cache.entry) (IsFaulty N.L.faults result.4.unpaired)
         (record {
           left = S.left script;
@@ -186,7 +186,8 @@ where
 {
     let mut mounted = mounted;
     let mut sink = sink;
-    match load(alloc, &mut mounted, cache, &mut sink) {
+    let (began, replaces) = load(alloc, &mut mounted, cache, &mut sink);
+    match began {
         Ok(()) => {}
         Err(why) => return (Err(why), script, sink, mounted.into_files(), dialler),
     }
@@ -196,7 +197,15 @@ where
     let mut mounted = mounted;
     let mut sink = sink;
     let behind = known_end(ended, known);
-    let saved = save_after(alloc, behind, &mut mounted, cache, keep, &mut sink);
+    let saved = save_after(
+        alloc,
+        behind,
+        &mut mounted,
+        cache,
+        replaces,
+        keep,
+        &mut sink,
+    );
     (saved, script, sink, mounted.into_files(), dialler)
 }
 
@@ -214,7 +223,8 @@ where
 ///
 /// Where there is a cache file its items are the client's before the first line, and what the client keeps
 /// is written to it behind a script that was read to its end. What is wrong with either is written, in a
-/// line of its own before all others, or behind them. The client keeps at most so many bytes of contents,
+/// line of its own before all others, or behind them. What stands there and is no cache file, or can't be read,
+/// stays as it is (`IsKept`). The client keeps at most so many bytes of contents,
 /// and takes its clock and the server's to drift apart so far, in milliseconds, while a lease lasts.
 ///
 /// The client takes turns alone, each a line, a connection, a record or the end of a link: the bytes of
@@ -243,7 +253,8 @@ pub fn mount<
 where
     N::L: Drop + Send,
     ensures done { OnOk result.0 (IsDoneAll (SaysAt F N.L.held N.L.faults) (is_some cache.entry) (S.left script) (S.left result.1) (K.held sink) (K.held result.2)) }
-    ensures saved { OnOk result.0 (IfSome cache.entry (λ name. ∥ IsSaved drift keep name.now (record { files = F.files result.3; faults = F.faults result.3 }) ∥₁)) }
+    ensures saved { OnOk result.0 (IfSome cache.entry (λ name. ∥ IsKept drift keep name.now (record { files = F.files files; faults = F.faults files })
+        (record { files = F.files result.3; faults = F.faults result.3 }) ∥₁)) }
     ensures written { WritesAll (SaysAt F N.L.held N.L.faults) (is_some cache.entry) (K.held sink) (K.held result.2) }
     ensures read { IsErrOf result.0 errors.ReadFault → Rose (S.faults script) (S.faults result.1) }
     ensures write { IsErrOf result.0 errors.WriteFault → Rose (K.faults sink) (K.faults result.2) }

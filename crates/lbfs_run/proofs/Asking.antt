@@ -9,7 +9,7 @@ use Rattle.exit_status.specs.declared.status.Status.TheVariants as status
 use Rattle.lbfs_client.specs.Host.{Host}
 use Rattle.lbfs_client.specs.declared.line.MountLine.{MountLine}
 use Rattle.lbfs_mount.specs.Cached.{IsNotice, WritesAll}
-use Rattle.lbfs_mount.specs.Saved.{IsSaved}
+use Rattle.lbfs_mount.specs.Saved.{IsKept}
 use Rattle.program_words.specs.declared.asked.Command.{Command}
 use Rattle.program_words.specs.declared.asked.Asked.{Asked}
 use Rattle.program_words.specs.declared.asked.Asked.TheVariants as ask
@@ -102,8 +102,8 @@ same_mount a o p e f = ap (mount_in o) (sym e ∙ f)
 pub mounts_by : (ends : Bool → Type 0) (o p : MountOptions) → o ≡ p → ends (is_some o.cache) → ends (is_some p.cache)
 mounts_by ends o p e h = subst (λ (x : MountOptions). ends (is_some x.cache)) e h
 
-pub saved_by : {D : Type 0} (host : Host) (o p : MountOptions) → o ≡ p → (D → IfSome o.cache (λ name. ∥ IsSaved o.drift o.keep name host ∥₁)) → D → IfSome p.cache (λ name. ∥ IsSaved p.drift p.keep name host ∥₁)
-saved_by {D} host o p e h = subst (λ (x : MountOptions). D → IfSome x.cache (λ name. ∥ IsSaved x.drift x.keep name host ∥₁)) e h
+pub saved_by : {D : Type 0} (old host : Host) (o p : MountOptions) → o ≡ p → (D → IfSome o.cache (λ name. ∥ IsKept o.drift o.keep name old host ∥₁)) → D → IfSome p.cache (λ name. ∥ IsKept p.drift p.keep name old host ∥₁)
+saved_by {D} old host o p e h = subst (λ (x : MountOptions). D → IfSome x.cache (λ name. ∥ IsKept x.drift x.keep name old host ∥₁)) e h
 
 pub memory_not_done : ◌≡◌ {A = Status} status.Memory status.Done → ⊥
 memory_not_done e = cc

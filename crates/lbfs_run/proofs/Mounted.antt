@@ -9,7 +9,7 @@ use Rattle.exit_status.specs.declared.status.Status.TheVariants as status
 use Rattle.lbfs_client.specs.declared.line.MountLine.{MountLine}
 use Rattle.lbfs_mount.specs.Cached.{IsBadLineAll, IsDoneAll, WritesAll}
 use Rattle.lbfs_client.specs.Host.{Host}
-use Rattle.lbfs_mount.specs.Saved.{IsSaved}
+use Rattle.lbfs_mount.specs.Saved.{IsKept}
 use Rattle.lbfs_mount.specs.Mounts.{IsTooLong}
 use Rattle.lbfs_mount.specs.declared.mount_error.MountError.{MountError}
 use Rattle.lbfs_mount.specs.declared.mount_error.MountError.TheVariants as errors
@@ -75,12 +75,12 @@ not_done held held' s errors.Network told done = grind (arith, told, done)
 not_done held held' s errors.Memory told done = grind (arith, told, done)
 not_done held held' s errors.TooLong told done = grind (arith, told, done)
 
--- its cache file was written, by the name that was asked for
-pub saved_named : (drift keep : ℕ) (host : Host) (held held' : Option (List ℕ)) (s : Status) (given : Option (Bor (List ℕ))) (cache : Option (List ℕ)) (ended : Result Unit MountError) → option_copied given ≡ cache
-    → OnOk ended (IfSome given (λ name. ∥ IsSaved drift keep name.now host ∥₁)) → Tells s held held' (mount_output ended) → s ≡ status.Done → IfSome cache (λ name. ∥ IsSaved drift keep name host ∥₁)
-saved_named drift keep host held held' s given cache (Err e) is saved told done = absurd (not_done held held' s e told done)
-saved_named drift keep host held held' s given cache (Ok u) is saved told done = subst (λ (o : Option (List ℕ)). IfSome o (λ name. ∥ IsSaved drift keep name host ∥₁)) is (by given saved)
+-- its cache file was kept, by the name that was asked for
+pub saved_named : (drift keep : ℕ) (old host : Host) (held held' : Option (List ℕ)) (s : Status) (given : Option (Bor (List ℕ))) (cache : Option (List ℕ)) (ended : Result Unit MountError) → option_copied given ≡ cache
+    → OnOk ended (IfSome given (λ name. ∥ IsKept drift keep name.now old host ∥₁)) → Tells s held held' (mount_output ended) → s ≡ status.Done → IfSome cache (λ name. ∥ IsKept drift keep name old host ∥₁)
+saved_named drift keep old host held held' s given cache (Err e) is saved told done = absurd (not_done held held' s e told done)
+saved_named drift keep old host held held' s given cache (Ok u) is saved told done = subst (λ (o : Option (List ℕ)). IfSome o (λ name. ∥ IsKept drift keep name old host ∥₁)) is (by given saved)
   where
-    by : (o : Option (Bor (List ℕ))) → IfSome o (λ name. ∥ IsSaved drift keep name.now host ∥₁) → IfSome (option_copied o) (λ name. ∥ IsSaved drift keep name host ∥₁)
+    by : (o : Option (Bor (List ℕ))) → IfSome o (λ name. ∥ IsKept drift keep name.now old host ∥₁) → IfSome (option_copied o) (λ name. ∥ IsKept drift keep name old host ∥₁)
     by None h = tt
     by (Some b) h = h

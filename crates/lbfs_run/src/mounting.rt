@@ -5,7 +5,7 @@ ghost use Rattle.std.specs.Prelude.{◌≡◌, ◌≤◌, ◌⊎◌, [], IfOk, I
 ghost use Rattle.std.specs.Option.{option_copied};
 ghost use Rattle.lb_base.specs.Causes.{Rose};
 ghost use Rattle.exit_status.specs.declared.status.Status.TheVariants as status;
-ghost use Rattle.lbfs_mount.specs.Saved.{IsSaved};
+ghost use Rattle.lbfs_mount.specs.Saved.{IsKept};
 ghost use Rattle.lbfs_mount.specs.Heard.{SaysAt};
 ghost use Rattle.lbfs_mount.specs.Mounts.{IsFaulty};
 ghost use Rattle.lbfs_mount.specs.declared.mount_error.MountError.TheVariants as errors;
@@ -109,7 +109,9 @@ where
         (S.left result.1.source) (K.held out.sink) (K.held result.1.sink) (S.faults out.source)
         (S.faults result.1.source) (K.faults out.sink) (N.faults out.network)
         (N.faults result.1.network) (IsFaulty N.L.faults result.2) result.0 }
-    ensures saved { result.0 ≡ status.Done → IfSome options.cache (λ name. ∥ IsSaved options.drift options.keep name (record { files = F.files result.1.files; faults = F.faults result.1.files }) ∥₁) }
+    ensures saved { result.0 ≡ status.Done → IfSome options.cache (λ name. ∥ IsKept options.drift options.keep name
+        (record { files = F.files out.files; faults = F.faults out.files })
+        (record { files = F.files result.1.files; faults = F.faults result.1.files }) ∥₁) }
     ensures unstored { result.1.store ≡ out.store }
     ensures read_later { S.faults out.source ≤ S.faults result.1.source }
     ensures write_later { K.faults out.sink ≤ K.faults result.1.sink }

@@ -18,7 +18,7 @@ ghost use Rattle.program_words.specs.declared.asked.Asked.TheVariants as ask;
 ghost use Rattle.exit_status.specs.declared.status.Status.TheVariants as status;
 ghost use Rattle.lbfs_run.specs.Output.{IsWhole};
 ghost use Rattle.lbfs_run.specs.PlainEnds.{IsAnswered, IsAnsweredFrom, IsBegun, IsBegunFrom, IsBroken, IsBrokenFrom, IsPlainEnd, IsReplayed, IsRun};
-ghost use Rattle.lbfs_mount.specs.Saved.{IsSaved};
+ghost use Rattle.lbfs_mount.specs.Saved.{IsKept};
 ghost use Rattle.lbfs_mount.specs.Heard.{SaysAt};
 ghost use Rattle.lbfs_mount.specs.Mounts.{IsFaulty};
 ghost use Rattle.lbfs_run.specs.Checking.{CheckEnds};
@@ -160,7 +160,8 @@ where
         (N.faults result.1.network) (IsFaulty N.L.faults result.2) result.0 }
     ensures saved { (o : MountOptions) → asked ≡ Some (ask.Mount o) → result.0 ≡ status.Done
         → IfSome o.cache (λ name.
-        ∥ IsSaved o.drift o.keep name
+        ∥ IsKept o.drift o.keep name
+        (record { files = F.files out.files; faults = F.faults out.files })
         (record { files = F.files result.1.files; faults = F.faults result.1.files }) ∥₁) }
     ensures unstored { (o : MountOptions) → asked ≡ Some (ask.Mount o) → result.1.store ≡ out.store }
     ensures checks { (o : CheckOptions) → asked ≡ Some (ask.Check o)
@@ -197,7 +198,7 @@ where
 /// `CheckEnds`, each with its cause and what was written (`serves`, `mounts`, `checks`). `serve` touches
 /// neither the source nor the files, `mount` not the store, and `check` changes nothing (`unread`,
 /// `unfiled`, `unstored`, `unchanged`). With `Done` a mount's cache file is written, of what a client kept
-/// that had the drift and the bound of the words (`saved`).
+/// that had the drift and the bound of the words, or left, where what stood there is no cache file (`saved`).
 ///
 /// Of all words: with `ReadFault` the source failed and its faults rose, with `WriteFault` the sink's, with
 /// `Network` (7) the network's, or `mount` dialled a link that has no twin, which is then given back with
@@ -284,7 +285,8 @@ where
     ensures saved { (o : MountOptions) → asked_of (words_as_bytes words.now)
         ≡ Some (ask.Mount o) → result.0 ≡ status.Done
         → IfSome o.cache (λ name.
-        ∥ IsSaved o.drift o.keep name
+        ∥ IsKept o.drift o.keep name
+        (record { files = F.files out.files; faults = F.faults out.files })
         (record { files = F.files result.1.files; faults = F.faults result.1.files }) ∥₁) }
     ensures unstored { (o : MountOptions) → asked_of (words_as_bytes words.now) ≡ Some (ask.Mount o) → result.1.store ≡ out.store }
     ensures checks { (o : CheckOptions)

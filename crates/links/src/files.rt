@@ -83,6 +83,10 @@ pub trait Files {
         ensures cause { IsErrOf result errors.Failed → Rose (faults self.old) (faults self.new) }
         ensures sound { (len : ℕ) → result ≡ Err (errors.TooBig len) → faults self.new ≡ faults self.old };
 
+    /// Whoever looks on is told that the file of this name, which was to be replaced, stays as it is, since it
+    /// isn't read as what was to be in its place.
+    fn leave(&self, name: &str);
+
     /// Makes a file of this name, or puts these bytes in the place of the one that there is. `Failed`
     /// comes only where the count of faults rose. After an `Err` all files are as before.
     fn put(&mut self, alloc: Global, name: &str, bytes: &[u8]) -> Result<(), GiveError>

@@ -154,6 +154,8 @@ impl Files for SureFiles {
         is_there(&self.files, name.as_bytes())
     }
 
+    fn leave(&self, _name: &str) {}
+
     fn get(&mut self, alloc: Global, name: &str) -> Result<Bytes, FilesError>
         ensures told { IfOk result (λ bytes. bytes ≡ bytes_of name.now self.old) }
         ensures within { IfOk result (λ bytes. length bytes ≤ FILE_MOST) }
@@ -240,6 +242,8 @@ impl Files for MemFiles {
     {
         self.files.has(name)
     }
+
+    fn leave(&self, _name: &str) {}
 
     fn get(&mut self, alloc: Global, name: &str) -> Result<Bytes, FilesError>
         ensures told { IfOk result (λ bytes. bytes ≡ bytes_of name.now self.old.files) }

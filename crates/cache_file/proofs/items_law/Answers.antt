@@ -1,3 +1,4 @@
+use Rattle.cache_file.proofs.Looks.{looks}
 use Rattle.cache_file.proofs.Reading.{found, only}
 use Rattle.cache_file.proofs.items_law.Goals as goal
 
@@ -6,3 +7,6 @@ returns-clause-found c = found
 
 pub returns-clause-only : goal.returns-clause-only
 returns-clause-only c = only
+
+pub returns-clause-looks : goal.returns-clause-looks
+returns-clause-looks c = looks

@@ -29,3 +29,6 @@ returns-clause-too_long g c = λ is. all_fails (SaysAt _ g.N.L.Link.held g.N.L.L
 
 pub returns-clause-bad_line : goal.returns-clause-bad_line
 returns-clause-bad_line g c = λ n is. all_fails (SaysAt _ g.N.L.Link.held g.N.L.Link.faults) (is_some c.args.cache) (IsFaulty g.N.L.Link.faults c.run_cached-ended.result.4.unpaired) (outside (g.S.Source.left c.args.script) (g.S.Source.faults c.args.script) (g.K.Sink.held c.args.sink) (g.K.Sink.faults c.args.sink) (g.N.Network.faults c.args.net)) (outside (g.S.Source.left c.run_cached-ended.result.1) (g.S.Source.faults c.run_cached-ended.result.1) (g.K.Sink.held c.run_cached-ended.result.2) (g.K.Sink.faults c.run_cached-ended.result.2) (g.N.Network.faults c.run_cached-ended.result.4.net)) c.run_cached-ended.result.0 (errors.BadLine n) c.run_cached-ended.ensures.ends is
+
+pub returns-clause-saved : goal.returns-clause-saved
+returns-clause-saved g c = rw c.in-Ok.ensures.ok at c.run_cached-ended.ensures.saved

@@ -12,7 +12,7 @@ returns-clause-mounts g c = (
 )
 
 pub returns-clause-saved : goal.returns-clause-saved
-returns-clause-saved g c = saved_named c.args.options.drift c.args.options.keep _ _ _ _ c.cache_name.result c.args.options.cache c.mount-ended.result.0 c.cache_name.ensures.name c.mount-ended.ensures.saved c.tell_mounted-status.ensures.told
+returns-clause-saved g c = saved_named c.args.options.drift c.args.options.keep _ _ _ _ _ c.cache_name.result c.args.options.cache c.mount-ended.result.0 c.cache_name.ensures.name c.mount-ended.ensures.saved c.tell_mounted-status.ensures.told
 
 pub returns-clause-unstored : goal.returns-clause-unstored
 returns-clause-unstored g c = refl

@@ -335,7 +335,7 @@ returns-in-Some-Mount-clause-mounts g c =
 pub returns-in-Some-Mount-clause-saved : goal.returns-in-Some-Mount-clause-saved
 returns-in-Some-Mount-clause-saved g c =
     let is : c.args.asked ≡ Some (ask.Mount c.in-Some-Mount.options) = c.in-Some-Mount.is ∙ ap Some c.in-Some-Mount.field-0-is in
-    λ o e. saved_by _ c.in-Some-Mount.options o (same_mount c.args.asked c.in-Some-Mount.options o is e) c.run_mount.ensures.saved
+    λ o e. saved_by _ _ c.in-Some-Mount.options o (same_mount c.args.asked c.in-Some-Mount.options o is e) c.run_mount.ensures.saved
 
 pub returns-in-Some-Mount-clause-unstored : goal.returns-in-Some-Mount-clause-unstored
 returns-in-Some-Mount-clause-unstored g c =
