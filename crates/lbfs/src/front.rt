@@ -29,17 +29,43 @@ pub(crate) fn run_front<H: Threads + Wait + Sync>(
     rt: HostRuntime,
     options: ShellOptions,
 ) -> ExitCode {
-    let end = match Arc::new(rt.alloc(), AtomicU64::new(0)) {
-        Ok(count) => run_over(handle, rt, options, count),
-        Err(_) => ShellEnd::Memory,
+    let port = options.port;
+    let end = match needs_of(rt.alloc(), &options.cache) {
+        Ok((cache, count)) => run_over(handle, rt, options, cache, count),
+        Err(AllocError) => {
+            drop(options);
+            ShellEnd::Memory
+        }
     };
+    match end {
+        ShellEnd::Network => tell(&rt, &Note::Unreached { port }),
+        ShellEnd::Memory => tell(&rt, &Note::Memory),
+        _ => {}
+    }
     ExitCode::from(end.code())
 }
 
-/// A shell whose one command is `help`, for which it dials nobody.
-fn help_options(alloc: Global) -> Result<ShellOptions, AllocError> {
+/// What `share --help` says.
+const SHARE: &str = "lbfs share DIR [--port P] [--term MS] [--unsynced]
+Serves the folder DIR at port P of this host, 7000 where none is given, until it
+is ended (Ctrl-C). Leases last for MS milliseconds, 30000 where none are given.
+With --unsynced nothing is flushed to the disk before it is answered.
+";
+
+/// A word more.
+fn put_word(alloc: Global, command: &mut Items<Name>, word: &[u8]) -> Result<(), AllocError> {
+    let name = Name::copy_of(alloc, word)?;
+    command.push(name)?;
+    Ok(())
+}
+
+/// A shell whose one command is `help`, of these words, for which it dials nobody.
+fn help_options(alloc: Global, words: &[String]) -> Result<ShellOptions, AllocError> {
     let mut command = Items::new(alloc);
-    command.push(Name::copy_of(alloc, b"help")?)?;
+    put_word(alloc, &mut command, b"help")?;
+    for word in words {
+        put_word(alloc, &mut command, word.as_bytes())?;
+    }
     Ok(ShellOptions {
         port: 1,
         links: 1,
@@ -49,13 +75,31 @@ fn help_options(alloc: Global) -> Result<ShellOptions, AllocError> {
     })
 }
 
-/// `shell --help`: what `help` says.
-pub(crate) fn run_help<H: Threads + Wait + Sync>(handle: &H, rt: HostRuntime) -> ExitCode {
-    match help_options(rt.alloc()) {
+/// `share --help`.
+pub(crate) fn share_help(rt: &HostRuntime) -> ExitCode {
+    match print!(rt; "{SHARE}") {
+        Ok(()) => ExitCode::from(ShellEnd::Done.code()),
+        Err(why) => {
+            tell(rt, &Note::Output(why));
+            ExitCode::from(ShellEnd::WriteFault.code())
+        }
+    }
+}
+
+/// `shell --help`: what `help` says, of these words.
+pub(crate) fn run_help<H: Threads + Wait + Sync>(
+    handle: &H,
+    rt: HostRuntime,
+    words: &[String],
+) -> ExitCode {
+    match help_options(rt.alloc(), words) {
         Ok(options) => run_front(handle, rt, options),
         Err(AllocError) => ExitCode::from(ShellEnd::Memory.code()),
     }
 }
+
+/// The path of a cache file, where there is one, and a count.
+type Needs = (Option<LocalPath>, Arc<AtomicU64>);
 
 /// The path of the cache file, where there is one.
 fn cache_path(alloc: Global, cache: &Option<StorePath>) -> Result<Option<LocalPath>, AllocError> {
@@ -65,23 +109,31 @@ fn cache_path(alloc: Global, cache: &Option<StorePath>) -> Result<Option<LocalPa
     }
 }
 
+/// What a shell takes of memory before it runs: the path of its cache file, and the count of its bytes.
+fn needs_of(alloc: Global, cache: &Option<StorePath>) -> Result<Needs, AllocError> {
+    let count = Arc::new(alloc, AtomicU64::new(0))?;
+    match cache_path(alloc, cache) {
+        Ok(cache) => Ok((cache, count)),
+        Err(AllocError) => Err(AllocError),
+    }
+}
+
 /// Runs a shell over the outside of this machine; the bytes that go over its links are counted there.
 fn run_over<H: Threads + Wait + Sync>(
     handle: &H,
     rt: HostRuntime,
     options: ShellOptions,
+    cache: Option<LocalPath>,
     count: Arc<AtomicU64>,
 ) -> ShellEnd {
     let ShellOptions {
         port,
         links,
-        cache,
+        cache: path,
         quiet,
         command,
     } = options;
-    let Ok(cache) = cache_path(rt.alloc(), &cache) else {
-        return ShellEnd::Memory;
-    };
+    drop(path);
     let out = Outside {
         screen: Person {
             screen: HostScreen::new(rt.stderr(), rt.stdin()),
@@ -100,11 +152,5 @@ fn run_over<H: Threads + Wait + Sync>(
     };
     let mut source = StreamSource::new(ToldReader::new(rt, rt.stdin()));
     let mut sink = StreamSink::new(ToldWriter::new(rt, rt.stdout()));
-    let end = run_shell(handle, rt.alloc(), &out, &asked, &mut source, &mut sink);
-    match end {
-        ShellEnd::Network => tell(&rt, &Note::Unreached { port }),
-        ShellEnd::Memory => tell(&rt, &Note::Memory),
-        _ => {}
-    }
-    end
+    run_shell(handle, rt.alloc(), &out, &asked, &mut source, &mut sink)
 }

@@ -11,7 +11,7 @@
 mod front;
 mod person;
 
-use crate::front::{run_front, run_help};
+use crate::front::{run_front, run_help, share_help};
 use crate::person::shared_at;
 use exit_status::status::Status;
 use folder_store::folder::FolderStore;
@@ -61,33 +61,20 @@ fn options_of(alloc: Global, words: &[String]) -> Result<Option<ServeOptions>, A
     }
 }
 
-/// What is served, for those who tell it and note its term.
+/// What is served, for the store and the network, which tell it and note its term.
 fn serving_of(
     alloc: Global,
-    options: &Option<ServeOptions>,
-) -> Result<Option<Arc<Serving>>, AllocError> {
-    let Some(options) = options else {
-        return Ok(None);
-    };
+    options: &ServeOptions,
+) -> Result<(Arc<Serving>, Arc<Serving>), AllocError> {
     let serving = Serving::new(alloc, options.store.as_str(), options.term)?;
-    Ok(Some(Arc::new(alloc, serving)?))
-}
-
-/// One owner more of a value, where there is one.
-fn shared<T>(value: &Option<Arc<T>>) -> Result<Option<Arc<T>>, AllocError> {
-    let Some(value) = value else {
-        return Ok(None);
-    };
-    match Arc::try_clone(value) {
-        Ok(more) => Ok(Some(more)),
-        Err(_) => Err(AllocError),
-    }
+    let serving: Arc<Serving> = Arc::new(alloc, serving)?;
+    let more: Arc<Serving> = serving.clone()?;
+    Ok((serving, more))
 }
 
 /// Tells which record of a store breaks a rule, which is read again for that.
-fn tell_record<D: Synced + Checks + Drop>(rt: &HostRuntime, store: D, place: &str) {
+fn tell_record<D: Synced + Checks>(rt: &HostRuntime, store: &mut D, place: &str) {
     let alloc = rt.alloc();
-    let mut store = store;
     if let Ok(found) = store.check(alloc, place) {
         if let Ok(Some(line)) = first_broken(alloc, &found) {
             let _told = eprint!(rt; "lbfs: {place}/{line}");
@@ -105,23 +92,17 @@ fn is_locked(rt: &HostRuntime, place: &str) -> bool {
 
 /// Tells what is left to tell of a store that failed as it was opened. A folder that can't be read, or is locked, was
 /// told of then; where it is locked its server may have the port too.
-fn tell_store<D: Synced + Checks + Drop>(rt: &HostRuntime, store: D, options: &ServeOptions) {
+fn tell_store(rt: &HostRuntime, options: &ServeOptions) {
     let place = options.store.as_str();
     if is_locked(rt, place) {
         tell_taken(rt, options.port);
     } else if fs::read_dir(rt, place).is_ok() {
-        tell_record(rt, store, place);
+        tell_record(rt, &mut FolderStore::new(*rt), place);
     }
 }
 
-/// Tells what is left to tell of a run that has ended; a store is for the folder that was served.
-fn tell_end<D: Synced + Checks + Drop>(
-    rt: &HostRuntime,
-    words: &[String],
-    store: D,
-    options: &Option<ServeOptions>,
-    status: Status,
-) {
+/// Tells what is left to tell of a run that has ended.
+fn tell_end(rt: &HostRuntime, words: &[String], options: &Option<ServeOptions>, status: Status) {
     match status {
         Status::BadWords => {
             if let Ok(text) = refusal(rt.alloc(), words) {
@@ -132,7 +113,7 @@ fn tell_end<D: Synced + Checks + Drop>(
         Status::NoThread => tell(rt, &Note::NoThread),
         Status::Store => {
             if let Some(options) = options {
-                tell_store(rt, store, options);
+                tell_store(rt, options);
             }
         }
         _ => {}
@@ -146,12 +127,15 @@ type Served = (
     Option<Arc<Serving>>,
 );
 
-/// What `main` needs before it runs.
+/// What a run needs before it begins.
 fn served(alloc: Global, words: &[String]) -> Result<Served, AllocError> {
-    let options = options_of(alloc, words)?;
-    let serving = serving_of(alloc, &options)?;
-    let more = shared(&serving)?;
-    Ok((options, serving, more))
+    let Some(options) = options_of(alloc, words)? else {
+        return Ok((None, None, None));
+    };
+    match serving_of(alloc, &options) {
+        Ok((serving, more)) => Ok((Some(options), Some(serving), Some(more))),
+        Err(AllocError) => Err(AllocError),
+    }
 }
 
 /// Has a store load what will be served, by threads, before a run asks for it.
@@ -188,22 +172,19 @@ fn starved(rt: &HostRuntime) -> ExitCode {
 /// What counts what was done, for the store and for the network.
 type Counting = (Option<Arc<Done>>, Option<Arc<Done>>);
 
-/// A store, and another of the same folder, for what is told of the first.
-type Stores = (FolderStore<HostRuntime>, FolderStore<HostRuntime>);
-
-/// Runs the words behind the program's name over the outside, and ends with the status's number.
+/// Runs the words behind the program's name over the outside, and ends with the status's number. The store is made
+/// once nothing can fail any more, so that no other way out has it.
 fn run<H: Threads + Wait + Sync>(
     handle: &H,
     rt: HostRuntime,
     words: &[String],
-    stores: Stores,
     counting: Counting,
 ) -> ExitCode {
-    let (mut store, again) = stores;
-    let (changes, connections) = counting;
     let Ok((options, serving, more)) = served(rt.alloc(), words) else {
         return starved(&rt);
     };
+    let (changes, connections) = counting;
+    let mut store = FolderStore::new(rt);
     if let Some(options) = &options {
         load_ahead(handle, &rt, &mut store, options);
     }
@@ -218,31 +199,28 @@ fn run<H: Threads + Wait + Sync>(
         rest: HostRest::new(rt),
     };
     let status = status_of(handle, rt.alloc(), words, outside);
-    tell_end(&rt, words, again, &options, status);
+    tell_end(&rt, words, &options, status);
     ExitCode::from(status.code())
 }
 
-/// What `share` needs before it runs: its words, and what counts.
-#[derive(Drop)]
-struct Sharing {
-    words: Vec<String>,
-    done: Option<Arc<Done>>,
-    changes: Option<Arc<Done>>,
-    connections: Option<Arc<Done>>,
+/// What `share` needs before it runs: its words, who is told of its end, and what counts.
+type Sharing = (Vec<String>, Arc<Done>, Counting);
+
+/// What counts, for the store and for the network, and who is told of the end.
+fn counters(rt: &HostRuntime, place: &str) -> Result<(Arc<Done>, Counting), AllocError> {
+    let done = shared_at(rt, place)?;
+    let changes: Arc<Done> = done.clone()?;
+    let connections: Arc<Done> = done.clone()?;
+    Ok((done, (Some(changes), Some(connections))))
 }
 
 /// What `share` needs by these options.
 fn share_over(rt: &HostRuntime, options: &ShareOptions) -> Result<Sharing, AllocError> {
-    let words = share_words(rt.alloc(), options)?;
-    let done = Some(shared_at(rt, options.store.as_str())?);
-    let changes = shared(&done)?;
-    let connections = shared(&done)?;
-    Ok(Sharing {
-        words,
-        done,
-        changes,
-        connections,
-    })
+    let (done, counting) = counters(rt, options.store.as_str())?;
+    match share_words(rt.alloc(), options) {
+        Ok(words) => Ok((words, done, counting)),
+        Err(AllocError) => Err(AllocError),
+    }
 }
 
 /// `share`: `serve` without end, by its words. What it did is said where a signal ends it, and not where it ends by
@@ -251,22 +229,15 @@ fn run_share<H: Threads + Wait + Sync>(
     handle: &H,
     rt: HostRuntime,
     options: &ShareOptions,
-    stores: Stores,
 ) -> ExitCode {
-    let Ok(sharing) = share_over(&rt, options) else {
-        return starved(&rt);
-    };
-    let Sharing {
-        words,
-        done,
-        changes,
-        connections,
-    } = sharing;
-    let code = run(handle, rt, words.as_slice(), stores, (changes, connections));
-    if let Some(done) = done {
-        done.end();
+    match share_over(&rt, options) {
+        Ok((words, done, counting)) => {
+            let code = run(handle, rt, words.as_slice(), counting);
+            done.end();
+            code
+        }
+        Err(AllocError) => starved(&rt),
     }
-    code
 }
 
 /// Runs the words: a shell, or `share`, or those of `run`.
@@ -276,34 +247,55 @@ fn run_others<H: Threads + Wait + Sync>(
     words: &[String],
     front: Option<Front>,
 ) -> ExitCode {
-    let stores = (FolderStore::new(rt), FolderStore::new(rt));
     match front {
-        Some(Front::Share(options)) => run_share(handle, rt, &options, stores),
+        Some(Front::Share(options)) => run_share(handle, rt, &options),
         Some(Front::Shell(options)) => run_front(handle, rt, options),
-        None => run(handle, rt, words, stores, (None, None)),
+        None => run(handle, rt, words, (None, None)),
     }
 }
 
-/// Whether the words ask what there is to type to a shell.
-fn asks_help(words: &[String]) -> bool {
+/// Whether a word behind a command for people asks what there is to type.
+fn asks_help(word: &str) -> bool {
+    word == "--help" || word == "-h"
+}
+
+/// The words of the help that is asked of a shell, if it is: `shell help` wants no port.
+fn help_words(words: &[String]) -> Option<&[String]> {
     match words {
-        [command, option] => command.as_str() == "shell" && option.as_str() == "--help",
+        [command, option, more @ ..] if command.as_str() == "shell" => {
+            let asks = asks_help(option.as_str()) || option.as_str() == "help";
+            if asks { Some(more) } else { None }
+        }
+        _ => None,
+    }
+}
+
+/// Whether the words ask what there is to type to share a folder.
+fn asks_share(words: &[String]) -> bool {
+    match words {
+        [command, option] => command.as_str() == "share" && asks_help(option.as_str()),
         _ => false,
+    }
+}
+
+/// Runs the words behind the program's name.
+fn run_words<H: Threads + Wait + Sync>(handle: &H, rt: HostRuntime, words: &[String]) -> ExitCode {
+    if asks_share(words) {
+        return share_help(&rt);
+    }
+    if let Some(more) = help_words(words) {
+        return run_help(handle, rt, more);
+    }
+    match front_of(rt.alloc(), words) {
+        Ok(front) => run_others(handle, rt, words, front),
+        Err(AllocError) => starved(&rt),
     }
 }
 
 /// Runs the words over the outside.
 fn main(rt: HostRuntime) -> ExitCode {
-    let Ok(words) = given_words(&rt) else {
-        return starved(&rt);
-    };
-    let words = words.as_slice();
-    let words = &words[words.len().min(1)..];
-    if asks_help(words) {
-        return run_help(&rt, rt);
-    }
-    match front_of(rt.alloc(), words) {
-        Ok(front) => run_others(&rt, rt, words, front),
-        Err(AllocError) => starved(&rt),
+    match given_words(&rt) {
+        Ok(words) => run_words(&rt, rt, &words.as_slice()[words.len().min(1)..]),
+        Err(_) => starved(&rt),
     }
 }

@@ -1,3 +1,4 @@
+pub mod Caching
 pub mod Ends
 pub mod Tally
 pub mod Telling

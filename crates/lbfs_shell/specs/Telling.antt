@@ -1,7 +1,9 @@
 -- The lines that say how far a command is, and what it came to.
-use Rattle.std.specs.Prelude.{ℕ, ◌+◌, ◌-◌, ◌*◌, ◌^◌, ◌/◌, ◌%◌, ◌==◌, ◌&&◌, List, [], ◌∷◌, ◌++◌, min, length, nat_lt, nat_le, codes, decimal, if◌then◌else◌}
+use Rattle.std.specs.Prelude.{ℕ, ◌+◌, ◌-◌, ◌*◌, ◌^◌, ◌/◌, ◌%◌, ◌==◌, ◌&&◌, List, [], ◌∷◌, ◌++◌, Bool, true, false, Option, Some, None, min, length, nat_lt, nat_le, codes, decimal, if◌then◌else◌}
 use Rattle.shell_words.specs.Quoting.{quoted}
 use Rattle.shell_walks.specs.Telling.{path_text}
+use Rattle.shell_walks.specs.declared.tasks.Task.{Task}
+use Rattle.shell_walks.specs.declared.tasks.Task.TheVariants as task
 use Rattle.lbfs_shell.specs.declared.tally.Tally.{Tally}
 use Rattle.lbfs_shell.specs.declared.telling.Glance.{Glance}
 use Rattle.lbfs_shell.specs.Tally.{capped_sum}
@@ -53,24 +55,54 @@ files_text done left = decimal done ++ codes " of " ++ count_text (capped_sum do
 abbrev pub line_part : (wire spent : ℕ) → List ℕ
 line_part wire spent = size_text wire ++ codes " on the line, " ++ rate_text wire spent
 
+abbrev pub waits_text : List ℕ
+waits_text = codes "waiting for the server (another client's lease, or its own start?)"
+
 -- where no byte has gone over the line for two seconds, what is asked for waits: a close does while another client's lease lasts, and first one that the run before may have granted
 abbrev pub pace_text : Glance → List ℕ
 pace_text g =
-    if nat_le 2000 g.still then codes "waiting for the server (another client's lease, or its own start?)"
+    if nat_le 2000 g.still then waits_text
     else line_part g.wire g.spent ++ left_text g.tally.files g.left g.spent
 
 -- in the place of the line that stands there, and with nothing behind it
 abbrev pub progress_line : Glance → List ℕ
 progress_line g = codes "\r" ++ files_text g.tally.files g.left ++ codes ", " ++ size_text g.tally.bytes ++ codes "; " ++ pace_text g ++ (27 ∷ 91 ∷ 75 ∷ [])
 
+-- of a command that counts no files
+abbrev pub waiting_line : List ℕ
+waiting_line = codes "\r" ++ waits_text ++ (27 ∷ 91 ∷ 75 ∷ [])
+
+abbrev pub shown_line : (counts : Bool) → Glance → Option (List ℕ)
+shown_line true g = Some (progress_line g)
+shown_line false g = if nat_le 2000 g.still then Some waiting_line else None
+
+-- what goes on with a folder, and with a directory: it goes to LOCAL itself, which is there by then
+abbrev pub delete_words : Bool → List ℕ
+delete_words true = codes "--delete "
+delete_words false = []
+
+abbrev pub sync_again : (deep deletes : Bool) → (local : List ℕ) → (path : List (List ℕ)) → List ℕ
+sync_again true deletes local path = codes "; to go on: sync " ++ delete_words deletes ++ quoted local ++ codes " " ++ path_text path
+sync_again false deletes local path = []
+
+abbrev pub get_again : (deep : Bool) → (path : List (List ℕ)) → (local : List ℕ) → List ℕ
+get_again true path local = codes "; to go on: get -r " ++ path_text path ++ codes "/. " ++ quoted local
+get_again false path local = []
+
+abbrev pub again_text : Task → List ℕ
+again_text (task.Put local path s) = sync_again s.deep s.deletes local path
+again_text (task.Get path local deep id) = get_again deep path local
+again_text t = []
+
 -- what is said of a command in the midst of which the program was ended
-abbrev pub stopped_line : Tally → (left : ℕ) → List ℕ
-stopped_line t left = codes "stopped: " ++ files_text t.files left ++ codes ", " ++ size_text t.bytes ++ codes "\n"
+abbrev pub stopped_line : Tally → (left : ℕ) → (again : List ℕ) → List ℕ
+stopped_line t left again = codes "stopped: " ++ files_text t.files left ++ codes ", " ++ size_text t.bytes ++ again ++ codes "\n"
 
 -- ---- what is said beside it
 
+-- of those that were known: a directory that wasn't begun may have had many more
 abbrev pub left_out_text : ℕ → List ℕ
-left_out_text n = codes "not begun: " ++ decimal n ++ codes " more\n"
+left_out_text n = codes "not begun: at least " ++ decimal n ++ codes " more\n"
 
 abbrev pub prompt_text : List (List ℕ) → List ℕ
 prompt_text place = codes "lbfs:" ++ path_text place ++ codes "> "

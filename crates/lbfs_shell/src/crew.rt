@@ -12,6 +12,7 @@ use crate::watching::watch;
 use last_words::keeping::Keeps;
 use links::clock::Clock;
 use links::rest::Rest;
+use shell_commands::shell::{Shell, Went};
 use shell_commands::visiting::visit;
 use shell_link::session::Session;
 use shell_walks::dials::Dials;
@@ -19,6 +20,7 @@ use shell_walks::folder::{Folder, Folders};
 use shell_walks::remote::Remote;
 use shell_walks::screen::Screen;
 use shell_walks::tasks::Task;
+use shell_words::command::{Line, Verb};
 use std::alloc::{AllocError, Global};
 use std::sync::Wait;
 use std::thread;
@@ -215,7 +217,7 @@ where
                 call_others(scope, rt, alloc, pool, out, manner);
                 work(rt, alloc, pool, &out.screen, remote, folder);
             }
-            pool.end(rt, &out.screen);
+            pool.end(rt, alloc, &out.screen);
         },
     );
 }
@@ -248,4 +250,77 @@ where
     };
     run_crew(rt, alloc, &pool, out, manner, remote, folder);
     pool.into_tally()
+}
+
+/// Runs a command that isn't done in tasks, and shows meanwhile that it waits.
+fn run_watched<
+    'x,
+    W: Threads + Wait + Sync,
+    P: Screen + Keeps + Sync,
+    H: Folders + Sync,
+    D: Dials + Sync,
+    C: Clock + Sync,
+    T: Rest + Sync,
+    R: Remote,
+    F: Folder,
+>(
+    rt: &'x W,
+    alloc: Global,
+    pool: &'x Pool,
+    out: &'x Outside<P, H, D, C, T>,
+    manner: Manner,
+    shell: &mut Shell,
+    remote: &mut R,
+    folder: &mut F,
+    line: &Line,
+) -> Result<Went, AllocError>
+where
+    D::L: Drop + Send,
+    H::F: Drop + Send,
+{
+    thread::scope(
+        thread::scope_env(),
+        rt,
+        move |scope| -> Result<Went, AllocError>
+            requires { IsSend D.L.row × IsSend H.F.row }
+        {
+            call_watcher(scope, rt, alloc, pool, out, manner);
+            let went = shell.run(alloc, remote, folder, line);
+            pool.end(rt, alloc, &out.screen);
+            went
+        },
+    )
+}
+
+/// Runs a line. What may wait for other clients' leases, or for those of the server's run before, says so, as tasks do.
+pub(crate) fn run_line<
+    W: Threads + Wait + Sync,
+    P: Screen + Keeps + Sync,
+    H: Folders + Sync,
+    D: Dials + Sync,
+    C: Clock + Sync,
+    T: Rest + Sync,
+    R: Remote,
+    F: Folder,
+>(
+    rt: &W,
+    alloc: Global,
+    out: &Outside<P, H, D, C, T>,
+    manner: Manner,
+    shell: &mut Shell,
+    remote: &mut R,
+    folder: &mut F,
+    line: &Line,
+) -> Result<Went, AllocError>
+where
+    D::L: Drop + Send,
+    H::F: Drop + Send,
+{
+    if !manner.shows || !matches!(line.verb, Verb::Rm | Verb::Mv) {
+        return shell.run(alloc, remote, folder, line);
+    }
+    let pool = Pool::without_tasks(alloc);
+    let went = run_watched(rt, alloc, &pool, out, manner, shell, remote, folder, line);
+    let _nothing = pool.into_tally();
+    went
 }

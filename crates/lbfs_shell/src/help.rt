@@ -44,8 +44,9 @@ on; without LOCAL it says which one that is.
 const GET: &str = "get [-r] PATH [LOCAL]
 Fetches a file to LOCAL: into it where LOCAL is a folder, and else in its
 place; without LOCAL to the file's own name here. With -r a directory, with all
-that is in it. A file that is replaced keeps its permissions, and of what it
-has nothing is fetched. Nothing is where LOCAL can't be written.
+that is in it; PATH/. goes to LOCAL itself, also where that is there. A file
+that is replaced keeps its permissions, and of what it has nothing is fetched.
+Nothing is where LOCAL can't be written.
 ";
 
 const PUT: &str = "put [-r] LOCAL [PATH]

@@ -7,6 +7,7 @@
 //! and `watching` shows them; `help` is what there is to type.
 #![tactic(auto)]
 
+mod caching;
 mod crew;
 mod help;
 pub mod outside;

@@ -3,9 +3,9 @@
 //! behind each.
 
 use crate::tally::Tally;
-use crate::telling::{Glance, left_out_text, progress_line, stopped_line};
+use crate::telling::{Glance, again_text, left_out_text, shown_line, stopped_line};
 use last_words::keeping::Keeps;
-use lb_base::items::Items;
+use lb_base::items::{Bytes, Items};
 use shell_commands::visiting::Visited;
 use shell_walks::screen::Screen;
 use shell_walks::tasks::Task;
@@ -21,8 +21,15 @@ struct Jobs {
     /// How many are being done.
     busy: u64,
     tally: Tally,
+    /// What goes on with them, where the program is ended.
+    again: Bytes,
     /// Whether what was stored and removed isn't said.
     is_quiet: bool,
+    /// Whether it is shown how many files were done, and not only that it waits.
+    counts: bool,
+    /// Whether nothing else is begun, and how many tasks weren't, of those that were known.
+    is_off: bool,
+    left_out: u64,
     /// Whether memory ran out.
     is_starved: bool,
     /// Whether a line stands on the screen that says how far it is.
@@ -75,12 +82,17 @@ impl Jobs {
         }
     }
 
-    /// No further task is begun, and how many aren't is said.
-    fn give_up<P: Screen>(&mut self, alloc: Global, screen: &P) {
+    /// The tasks that are to do aren't begun.
+    fn leave_out(&mut self) {
         let count = self.tasks.len() as u64;
+        self.left_out = self.left_out.saturating_add(count);
         self.tasks.clear();
-        if count > 0 {
-            match left_out_text(alloc, count) {
+    }
+
+    /// How many tasks weren't begun is said, where some weren't.
+    fn say_left_out<P: Screen>(&mut self, alloc: Global, screen: &P) {
+        if self.left_out > 0 {
+            match left_out_text(alloc, self.left_out) {
                 Ok(text) => self.say(screen, text.as_slice()),
                 Err(AllocError) => self.is_starved = true,
             }
@@ -92,7 +104,7 @@ impl Jobs {
         if self.is_quiet {
             return;
         }
-        if let Ok(line) = stopped_line(alloc, self.tally, self.left()) {
+        if let Ok(line) = stopped_line(alloc, self.tally, self.left(), self.again.as_slice()) {
             screen.keep(line.as_slice());
         }
     }
@@ -105,35 +117,50 @@ impl Jobs {
             self.say(screen, visited.news.as_slice());
         }
         self.say(screen, visited.note.as_slice());
-        let is_off = visited.is_off;
+        self.is_off = self.is_off || visited.is_off;
         let mut visited = visited;
         let more = mem::replace(&mut visited.more, Items::new(alloc));
         drop(visited);
         self.add(more);
-        if is_off || self.is_starved {
-            self.give_up(alloc, screen);
+        if self.is_off || self.is_starved {
+            self.leave_out();
         }
         self.keep(alloc, screen);
     }
 }
 
 impl Pool {
-    /// One task is to do, of which less is said where it is quiet.
-    pub(crate) fn new(alloc: Global, task: Task, is_quiet: bool) -> Result<Pool, AllocError> {
-        let mut tasks = Vec::new(alloc);
-        tasks.push(task)?;
-        Ok(Pool {
+    /// These tasks are to do, of which less is said where it is quiet.
+    fn of(tasks: Vec<Task>, again: Bytes, is_quiet: bool, counts: bool) -> Pool {
+        Pool {
             jobs: Mutex::new(Jobs {
                 tasks,
                 busy: 0,
                 tally: Tally::new(),
+                again,
                 is_quiet,
+                counts,
+                is_off: false,
+                left_out: 0,
                 is_starved: false,
                 is_shown: false,
                 is_over: false,
             }),
             news: Condvar::new(),
-        })
+        }
+    }
+
+    /// One task is to do, of which less is said where it is quiet.
+    pub(crate) fn new(alloc: Global, task: Task, is_quiet: bool) -> Result<Pool, AllocError> {
+        let again = again_text(alloc, &task)?;
+        let mut tasks = Vec::new(alloc);
+        tasks.push(task)?;
+        Ok(Pool::of(tasks, again, is_quiet, true))
+    }
+
+    /// A command is under way that isn't done in tasks: only that it waits is shown.
+    pub(crate) fn without_tasks(alloc: Global) -> Pool {
+        Pool::of(Vec::new(alloc), Items::new(alloc), true, false)
     }
 
     /// It is begun: how far it is, is to be said where the program is ended.
@@ -208,11 +235,13 @@ impl Pool {
         self.jobs.lock(rt).is_over
     }
 
-    /// All is done: the line that says how far it is goes, and isn't shown again, nor said at an end.
-    pub(crate) fn end<W: Wait, P: Screen + Keeps>(&self, rt: &W, screen: &P) {
+    /// All is done: the line that says how far it is goes, and isn't shown again, nor said at an end. What wasn't
+    /// begun is counted.
+    pub(crate) fn end<W: Wait, P: Screen + Keeps>(&self, rt: &W, alloc: Global, screen: &P) {
         let mut jobs = self.jobs.lock(rt);
         jobs.is_over = true;
         jobs.erase(screen);
+        jobs.say_left_out(alloc, screen);
         screen.keep(b"\n");
     }
 
@@ -237,7 +266,7 @@ impl Pool {
             spent,
             still,
         };
-        if let Ok(line) = progress_line(alloc, glance) {
+        if let Ok(Some(line)) = shown_line(alloc, jobs.counts, glance) {
             screen.say(line.as_slice());
             jobs.is_shown = true;
         }

@@ -1,14 +1,17 @@
 //! A shell from its first connection to its end: its one command, or the lines of its input.
 
-ghost use Rattle.std.specs.Prelude.{◌≡◌, ◌≢◌, ◌≤◌, ◌⊎◌, [], IfErr, None, Ok};
+ghost use Rattle.std.specs.Prelude.{◌≡◌, ◌≢◌, ◌≤◌, ◌⊎◌, [], IfOk, IfErr, IsErrOf, None, Ok, Err, false};
 ghost use Rattle.exit_status.specs.declared.shell_end.ShellEnd.TheVariants as ends;
+ghost use Rattle.lbfs_shell.specs.Caching.{Chooses, used_of};
 ghost use Rattle.lbfs_shell.specs.Ends.{SinkCause, HasCause, HasLeft, end_of};
 
-use crate::crew::{Manner, run_task};
+use crate::caching::{Found, look};
+use crate::crew::{Manner, run_line, run_task};
 use crate::help;
 use crate::outside::Outside;
 use crate::saying::{Flow, read_end, tell, write};
 use crate::telling::{end_line, line_text, prompt_text};
+use command_text::parts::first_part;
 use exit_status::shell_end::ShellEnd;
 use last_words::keeping::Keeps;
 use lb_base::items::{Items, Name};
@@ -26,7 +29,7 @@ use shell_walks::remote::Remote;
 use shell_walks::screen::Screen;
 use shell_walks::tasks::Task;
 use shell_walks::telling::{fault_words, mistake_words, note_line};
-use shell_words::command::{Line, Verb, verb_of};
+use shell_words::command::{Line, Start, Verb, start_of, verb_of};
 use shell_words::local::LocalPath;
 use shell_words::mistake::{Mistake, ReadError};
 use shell_words::path::copy_of;
@@ -57,6 +60,15 @@ struct Seat<R, F> {
     folder: F,
 }
 
+/// How a command is done.
+fn manner_of<P: Screen>(screen: &P, asked: &ShellAsked) -> Manner {
+    Manner {
+        links: asked.links,
+        shows: !asked.quiet && screen.is_watched(),
+        quiet: asked.quiet,
+    }
+}
+
 /// A task with all that come of it, and the line at its end.
 fn run_all<
     W: Threads + Wait + Sync,
@@ -80,11 +92,7 @@ where
     H::F: Drop + Send,
     ensures { IfErr result (λ e. e ≡ ends.Memory) }
 {
-    let manner = Manner {
-        links: asked.links,
-        shows: !asked.quiet && out.screen.is_watched(),
-        quiet: asked.quiet,
-    };
+    let manner = manner_of(&out.screen, asked);
     let before = out.dialler.bytes();
     let Some(tally) = run_task(
         rt,
@@ -175,10 +183,17 @@ where
         Verb::Bye => return Ok(Flow::Bye),
         _ => {}
     }
-    match seat
-        .shell
-        .run(alloc, &mut seat.remote, &mut seat.folder, line)
-    {
+    let manner = manner_of(&out.screen, asked);
+    match run_line(
+        rt,
+        alloc,
+        out,
+        manner,
+        &mut seat.shell,
+        &mut seat.remote,
+        &mut seat.folder,
+        line,
+    ) {
         Ok(Went::Told(told)) => tell(&out.screen, sink, &told),
         Ok(Went::Works(task)) => run_all(rt, alloc, out, asked, seat, task),
         Ok(Went::Bye) => Ok(Flow::Bye),
@@ -218,16 +233,64 @@ where
     flow
 }
 
-/// What a line says; none where it says nothing. Its first word goes to `first`, as far as it was read.
-fn line_of(alloc: Global, text: &[u8], first: &mut Name) -> Result<Option<Line>, ReadError> {
-    let words = words_of(alloc, text)?;
-    if let Some(word) = words.as_slice().first() {
-        *first = word.try_clone(alloc)?;
+/// The words that a line begins with, where it isn't read: as far as its first blank.
+fn front_words(alloc: Global, text: &[u8]) -> Result<Items<Name>, ReadError> {
+    let (front, _rest) = first_part(b' ', text);
+    match words_of(alloc, front) {
+        Ok(words) => Ok(words),
+        Err(ReadError::Mistaken(_)) => Ok(Items::new(alloc)),
+        Err(ReadError::Memory) => Err(ReadError::Memory),
     }
-    match Line::read(words) {
-        Ok(line) => Ok(line),
-        Err(mistake) => Err(ReadError::Mistaken(mistake)),
+}
+
+/// The first of these words, if there is one.
+fn first_word(words: &[Name]) -> &[u8] {
+    match words.first() {
+        Some(word) => word.as_slice(),
+        None => b"",
     }
+}
+
+/// The option that a command hasn't, where words say one.
+fn option_of(words: &[Name]) -> &[u8] {
+    let [first, rest @ ..] = words else {
+        return b"";
+    };
+    let Some(verb) = verb_of(first.as_slice()) else {
+        return b"";
+    };
+    match (start_of(verb, rest), rest) {
+        (Start::Option, [word, ..]) => word.as_slice(),
+        (Start::Known, [_, word, ..]) => word.as_slice(),
+        _ => b"",
+    }
+}
+
+/// The word at fault: the option that isn't there, else the first one.
+fn word_at_fault(words: &[Name], mistake: Mistake) -> &[u8] {
+    match mistake {
+        Mistake::BadOption => option_of(words),
+        _ => first_word(words),
+    }
+}
+
+/// What a line says; none where it says nothing. The word that is named where it isn't done goes to `named`.
+fn line_of(alloc: Global, text: &[u8], named: &mut Name) -> Result<Option<Line>, ReadError> {
+    let words = match words_of(alloc, text) {
+        Ok(words) => words,
+        Err(error) => {
+            let words = front_words(alloc, text)?;
+            *named = Name::copy_of(alloc, first_word(words.as_slice()))?;
+            return Err(error);
+        }
+    };
+    let read = command_of(alloc, words.as_slice());
+    let word = match &read {
+        Err(ReadError::Mistaken(mistake)) => word_at_fault(words.as_slice(), *mistake),
+        _ => first_word(words.as_slice()),
+    };
+    *named = Name::copy_of(alloc, word)?;
+    read
 }
 
 /// These words are said of a line whose first word is this, if any was read.
@@ -429,11 +492,7 @@ fn refuse<P: Screen, K: Sink>(
     ensures cause { SinkCause (K.faults sink.old) (K.faults sink.new) result }
     ensures later { K.faults sink.old ≤ K.faults sink.new }
 {
-    let word = match words.first() {
-        Some(word) => word.as_slice(),
-        None => b"",
-    };
-    match mistaken(alloc, word, mistake) {
+    match mistaken(alloc, word_at_fault(words, mistake), mistake) {
         Ok(told) => match tell(screen, sink, &told) {
             Ok(_) => ShellEnd::BadWords,
             Err(end) => end,
@@ -442,7 +501,7 @@ fn refuse<P: Screen, K: Sink>(
     }
 }
 
-/// What the words of the one command say; none where there are none.
+/// What the words of a command say; none where there are none.
 #[tactic(auto, using(crate::proofs::Causes::said_nothing))]
 fn command_of(alloc: Global, words: &[Name]) -> Result<Option<Line>, ReadError>
     ensures { result ≡ Ok None → words.now ≡ [] }
@@ -475,47 +534,109 @@ where
     }
 }
 
-/// A shell in the folder of the host that the program runs in, with a connection; or how it ends.
-fn seated<'e, P, H: Folders, D: Dials, C: Clock, T>(
-    alloc: Global,
-    out: &'e Outside<P, H, D, C, T>,
-) -> Result<Seat<Session<'e, D, C>, H::F>, ShellEnd>
-where
-    D::L: Drop,
-    H::F: Drop,
-    ensures { IfErr result (λ e. (e ≡ ends.Network) ⊎ (e ≡ ends.Memory)) }
-{
-    let Ok(here) = LocalPath::copy_of(alloc, ".") else {
-        return Err(ShellEnd::Memory);
-    };
-    match joined(alloc, &out.dialler, &out.clock) {
-        Ok(remote) => Ok(Seat {
-            shell: Shell::new(alloc, here),
-            remote,
-            folder: out.folders.folder(0),
-        }),
-        Err(end) => Err(end),
+/// What is said of a file that is no cache file.
+const OTHER: &[u8] = b"it is no cache file, and stays as it is (name another one, or remove it)";
+
+/// These words are said of the cache file.
+fn say_words<P: Screen>(alloc: Global, screen: &P, name: &str, words: &[u8]) {
+    if let Ok(about) = quoted(alloc, name.as_bytes()) {
+        if let Ok(note) = note_line(alloc, about.as_slice(), words) {
+            screen.say(note.as_slice());
+        }
     }
 }
 
 /// What is wrong with the cache file is said.
 fn say_fault<P: Screen>(alloc: Global, screen: &P, name: &str, fault: Option<LocalFault>) {
     if let Some(fault) = fault {
-        if let Ok(about) = quoted(alloc, name.as_bytes()) {
-            if let Ok(note) = note_line(alloc, about.as_slice(), fault_words(fault)) {
-                screen.say(note.as_slice());
-            }
+        say_words(alloc, screen, name, fault_words(fault));
+    }
+}
+
+/// Whether what stands there is read, and replaced behind the last line. What is no cache file is said, and the
+/// end; one that can't be read is said, and left alone.
+fn used_of<P: Screen>(alloc: Global, screen: &P, name: &str, found: Found) -> Result<bool, ShellEnd>
+    ensures { result ≡ used_of found }
+{
+    match found {
+        Found::Ours => Ok(true),
+        Found::Other => {
+            say_words(alloc, screen, name, OTHER);
+            Err(ShellEnd::Undone)
+        }
+        Found::Hidden(fault) => {
+            say_words(alloc, screen, name, fault_words(fault));
+            Ok(false)
         }
     }
 }
 
-/// The cache file is read, where there is one.
+/// Whether a cache file is used: what stands there is looked at, where one was named.
+fn uses_cache<P: Screen, F: Folder>(
+    alloc: Global,
+    screen: &P,
+    folder: &mut F,
+    cache: &Option<LocalPath>,
+) -> Result<bool, ShellEnd>
+    ensures { Chooses F.reads folder.old cache.now result folder.new }
+{
+    let Some(path) = cache else {
+        return Ok(false);
+    };
+    let name = path.as_str();
+    let found = look(alloc, folder, name);
+    used_of(alloc, screen, name, found)
+}
+
+/// A shell in the folder of the host that the program runs in, with a connection, and whether a cache file is
+/// used; or how it ends. What stands there is looked at before it connects.
+fn seated<'e, P: Screen, H: Folders, D: Dials, C: Clock, T>(
+    alloc: Global,
+    out: &'e Outside<P, H, D, C, T>,
+    asked: &ShellAsked,
+) -> Result<(Seat<Session<'e, D, C>, H::F>, bool), ShellEnd>
+where
+    D::L: Drop,
+    H::F: Drop,
+    ensures seated { IfOk result (λ s. (host : H.F) × Chooses H.F.reads host asked.now.cache (Ok s.1) s.0.folder) }
+    ensures refused { IsErrOf result ends.Undone → (host : H.F) × ((kept : H.F) × Chooses H.F.reads host asked.now.cache (Err ends.Undone) kept) }
+    ensures end { IfErr result (λ e. (e ≡ ends.Undone) ⊎ ((e ≡ ends.Network) ⊎ (e ≡ ends.Memory))) }
+{
+    let Ok(here) = LocalPath::copy_of(alloc, ".") else {
+        return Err(ShellEnd::Memory);
+    };
+    let mut folder = out.folders.folder(0);
+    let is_cached = match uses_cache(alloc, &out.screen, &mut folder, &asked.cache) {
+        Ok(is_cached) => is_cached,
+        Err(end) => return Err(end),
+    };
+    match joined(alloc, &out.dialler, &out.clock) {
+        Ok(remote) => {
+            let shell = Shell::new(alloc, here);
+            let seat = Seat {
+                shell,
+                remote,
+                folder,
+            };
+            Ok((seat, is_cached))
+        }
+        Err(end) => Err(end),
+    }
+}
+
+/// The cache file is read, where one is used.
 fn load_cache<P: Screen, R: Remote, F: Folder>(
     alloc: Global,
     screen: &P,
     asked: &ShellAsked,
+    is_cached: bool,
     seat: &mut Seat<R, F>,
-) {
+)
+    ensures { is_cached ≡ false → seat.new ≡ seat.old }
+{
+    if !is_cached {
+        return;
+    }
     if let Some(path) = &asked.cache {
         let name = path.as_str();
         let fault = load(alloc, &mut seat.remote, &mut seat.folder, name);
@@ -531,14 +652,20 @@ fn is_through(end: ShellEnd) -> bool {
     matches!(end, ShellEnd::Done | ShellEnd::Undone)
 }
 
-/// The cache file is written, where there is one, behind the last line.
+/// The cache file is written, where one is used, behind the last line.
 fn save_cache<P: Screen, R: Remote, F: Folder>(
     alloc: Global,
     screen: &P,
     asked: &ShellAsked,
+    is_cached: bool,
     seat: &mut Seat<R, F>,
     end: ShellEnd,
-) {
+)
+    ensures { is_cached ≡ false → seat.new ≡ seat.old }
+{
+    if !is_cached {
+        return;
+    }
     if let Some(path) = &asked.cache {
         if is_through(end) {
             let name = path.as_str();
@@ -578,11 +705,11 @@ where
             Err(end) => end,
         };
     }
-    match seated(alloc, out) {
-        Ok(mut seat) => {
-            load_cache(alloc, &out.screen, asked, &mut seat);
+    match seated(alloc, out, asked) {
+        Ok((mut seat, is_cached)) => {
+            load_cache(alloc, &out.screen, asked, is_cached, &mut seat);
             let end = run_once(rt, alloc, out, asked, &mut seat, sink, line);
-            save_cache(alloc, &out.screen, asked, &mut seat, end);
+            save_cache(alloc, &out.screen, asked, is_cached, &mut seat, end);
             end
         }
         Err(end) => end,
@@ -613,11 +740,11 @@ where
     ensures cause { HasCause (S.faults source.old) (S.faults source.new) (K.faults sink.old) (K.faults sink.new) result }
     ensures later { (S.faults source.old ≤ S.faults source.new) × (K.faults sink.old ≤ K.faults sink.new) }
 {
-    match seated(alloc, out) {
-        Ok(mut seat) => {
-            load_cache(alloc, &out.screen, asked, &mut seat);
+    match seated(alloc, out, asked) {
+        Ok((mut seat, is_cached)) => {
+            load_cache(alloc, &out.screen, asked, is_cached, &mut seat);
             let end = run_lines(rt, alloc, out, asked, &mut seat, source, sink);
-            save_cache(alloc, &out.screen, asked, &mut seat, end);
+            save_cache(alloc, &out.screen, asked, is_cached, &mut seat, end);
             end
         }
         Err(end) => end,

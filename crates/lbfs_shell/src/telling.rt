@@ -1,11 +1,13 @@
 //! The lines that say how far a command is, and what it came to: `specs/Telling.antt`.
 
 ghost use Rattle.std.specs.Prelude.{◌≡◌, ◌++◌, IfOk, OnOk, codes, decimal};
-ghost use Rattle.lbfs_shell.specs.Telling.{count_text, big_text, middle_text, size_text, end_line, rate_text, left_of, left_text, files_text, line_part, pace_text, progress_line, left_out_text, stopped_line};
+ghost use Rattle.lbfs_shell.specs.Telling.{count_text, big_text, middle_text, size_text, end_line, rate_text, left_of, left_text, files_text, line_part, pace_text, progress_line, waits_text, waiting_line, shown_line, left_out_text, stopped_line};
+ghost use Rattle.lbfs_shell.specs.Telling.{delete_words, sync_again, get_again, again_text};
 ghost use Rattle.lbfs_shell.specs.Telling.{prompt_text, number_text, line_text};
 
 use crate::tally::Tally;
 use lb_base::items::{Bytes, Items, Name};
+use shell_walks::tasks::Task;
 use shell_walks::telling::path_text;
 use shell_words::quoting::quoted;
 use std::alloc::{AllocError, Global};
@@ -27,6 +29,13 @@ pub(crate) struct Glance {
 
 /// Behind how many such milliseconds it is said that the server is waited for.
 const STILL: u64 = 2_000;
+
+/// That it is.
+fn waits_words() -> &'static [u8]
+    ensures { result.now ≡ waits_text }
+{
+    b"waiting for the server (another client's lease, or its own start?)"
+}
 
 /// So many of something.
 fn count_text(alloc: Global, count: u64, what: &str) -> Result<Bytes, AllocError>
@@ -157,10 +166,7 @@ fn pace_text(alloc: Global, glance: Glance) -> Result<Bytes, AllocError>
     ensures { IfOk result (λ text. text ≡ pace_text glance) }
 {
     if glance.still >= STILL {
-        return Items::copy_of(
-            alloc,
-            b"waiting for the server (another client's lease, or its own start?)",
-        );
+        return Items::copy_of(alloc, waits_words());
     }
     let mut out = line_part(alloc, glance.wire, glance.spent)?;
     let rest = left_text(alloc, glance.tally.files, glance.left, glance.spent)?;
@@ -169,7 +175,7 @@ fn pace_text(alloc: Global, glance: Glance) -> Result<Bytes, AllocError>
 }
 
 /// How far a command is, in the place of the line that stands there.
-pub(crate) fn progress_line(alloc: Global, glance: Glance) -> Result<Bytes, AllocError>
+fn progress_line(alloc: Global, glance: Glance) -> Result<Bytes, AllocError>
     ensures { IfOk result (λ text. text ≡ progress_line glance) }
 {
     let files = files_text(alloc, glance.tally.files, glance.left)?;
@@ -185,9 +191,113 @@ pub(crate) fn progress_line(alloc: Global, glance: Glance) -> Result<Bytes, Allo
     Ok(out)
 }
 
+/// That a command waits which counts no files, in the place of the line that stands there.
+fn waiting_line(alloc: Global) -> Result<Bytes, AllocError>
+    ensures { IfOk result (λ text. text ≡ waiting_line) }
+{
+    let mut out = Items::copy_of(alloc, b"\r")?;
+    out.extend_from_slice(waits_words())?;
+    out.extend_from_slice(b"\x1b[K")?;
+    Ok(out)
+}
+
+/// How far a command is, where there is something to show: of one that counts no files, only that it waits.
+pub(crate) fn shown_line(
+    alloc: Global,
+    counts: bool,
+    glance: Glance,
+) -> Result<Option<Bytes>, AllocError>
+    ensures { IfOk result (λ line. line ≡ shown_line counts glance) }
+{
+    if counts {
+        Ok(Some(progress_line(alloc, glance)?))
+    } else if glance.still >= STILL {
+        Ok(Some(waiting_line(alloc)?))
+    } else {
+        Ok(None)
+    }
+}
+
+/// The option of a `sync` that deletes.
+fn delete_words(deletes: bool) -> &'static [u8]
+    ensures { result.now ≡ delete_words deletes }
+{
+    if deletes { b"--delete " } else { b"" }
+}
+
+/// What goes on with a folder that is stored.
+fn sync_again(
+    alloc: Global,
+    deep: bool,
+    deletes: bool,
+    local: &str,
+    path: &[Name],
+) -> Result<Bytes, AllocError>
+    ensures { IfOk result (λ text. text ≡ sync_again deep deletes local.now path.now) }
+{
+    if !deep {
+        return Ok(Items::new(alloc));
+    }
+    let here = quoted(alloc, local.as_bytes())?;
+    let there = path_text(alloc, path)?;
+    let mut out = Items::copy_of(alloc, b"; to go on: sync ")?;
+    out.extend_from_slice(delete_words(deletes))?;
+    out.extend_from_slice(here.as_slice())?;
+    out.extend_from_slice(b" ")?;
+    out.extend_from_slice(there.as_slice())?;
+    Ok(out)
+}
+
+/// What goes on with a directory that is fetched.
+fn get_again(alloc: Global, deep: bool, path: &[Name], local: &str) -> Result<Bytes, AllocError>
+    ensures { IfOk result (λ text. text ≡ get_again deep path.now local.now) }
+{
+    if !deep {
+        return Ok(Items::new(alloc));
+    }
+    let there = path_text(alloc, path)?;
+    let here = quoted(alloc, local.as_bytes())?;
+    let mut out = Items::copy_of(alloc, b"; to go on: get -r ")?;
+    out.extend_from_slice(there.as_slice())?;
+    out.extend_from_slice(b"/. ")?;
+    out.extend_from_slice(here.as_slice())?;
+    Ok(out)
+}
+
+/// What goes on with a task, where it was ended in the midst of what came from it.
+pub(crate) fn again_text(alloc: Global, task: &Task) -> Result<Bytes, AllocError>
+    ensures { IfOk result (λ text. text ≡ again_text task.now) }
+{
+    match task {
+        Task::Put {
+            local,
+            path,
+            storing,
+        } => sync_again(
+            alloc,
+            storing.deep,
+            storing.deletes,
+            local.as_str(),
+            path.as_slice(),
+        ),
+        Task::Get {
+            path,
+            local,
+            deep,
+            ..
+        } => get_again(alloc, *deep, path.as_slice(), local.as_str()),
+        Task::Remove(_) => Ok(Items::new(alloc)),
+    }
+}
+
 /// What is said of a command in the midst of which the program was ended.
-pub(crate) fn stopped_line(alloc: Global, tally: Tally, left: u64) -> Result<Bytes, AllocError>
-    ensures { IfOk result (λ text. text ≡ stopped_line tally left) }
+pub(crate) fn stopped_line(
+    alloc: Global,
+    tally: Tally,
+    left: u64,
+    again: &[u8],
+) -> Result<Bytes, AllocError>
+    ensures { IfOk result (λ text. text ≡ stopped_line tally left again.now) }
 {
     let files = files_text(alloc, tally.files, left)?;
     let contents = size_text(alloc, tally.bytes)?;
@@ -195,6 +305,7 @@ pub(crate) fn stopped_line(alloc: Global, tally: Tally, left: u64) -> Result<Byt
     out.extend_from_slice(files.as_slice())?;
     out.extend_from_slice(b", ")?;
     out.extend_from_slice(contents.as_slice())?;
+    out.extend_from_slice(again)?;
     out.extend_from_slice(b"\n")?;
     Ok(out)
 }
@@ -208,12 +319,12 @@ fn put_count(alloc: Global, out: &mut Bytes, count: u64) -> Result<(), AllocErro
     out.extend_from_slice(text.as_bytes())
 }
 
-/// What is said of tasks that weren't begun.
+/// What is said of tasks that weren't begun, and were known: a directory among them may have had many more.
 pub(crate) fn left_out_text(alloc: Global, count: u64) -> Result<Bytes, AllocError>
     ensures { IfOk result (λ text. text ≡ left_out_text count) }
 {
     let mut text = String::new(alloc);
-    write!(text, "not begun: {count} more\n")?;
+    write!(text, "not begun: at least {count} more\n")?;
     Ok(Items::from_vec(text.into_bytes()))
 }
 

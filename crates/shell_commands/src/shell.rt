@@ -145,6 +145,23 @@ fn move_named<R: Remote>(
     }
 }
 
+/// A word for a path of the host without `./` in front, which says nothing.
+fn plain(word: &str) -> &str {
+    match word.strip_prefix("./") {
+        Some(rest) if !rest.is_empty() && !rest.starts_with("/") => rest,
+        _ => word,
+    }
+}
+
+/// The path of the host that a word names in a folder, as it is shown.
+fn local_of(alloc: Global, folder: &str, word: &str) -> Result<LocalPath, AllocError> {
+    if word == "." {
+        LocalPath::copy_of(alloc, folder)
+    } else {
+        LocalPath::of(alloc, folder, plain(word))
+    }
+}
+
 /// The folder that a path of the host is in.
 fn folder_of(path: &str) -> &str {
     match path.rsplit_once('/') {
@@ -185,7 +202,7 @@ impl Shell {
     /// The path of the host that a word names.
     fn named_local(&self, alloc: Global, word: &[u8]) -> Result<NamedLocal, AllocError> {
         match text_of(word) {
-            Some(text) => Ok(NamedLocal::Path(LocalPath::of(alloc, self.folder.as_str(), text)?)),
+            Some(text) => Ok(NamedLocal::Path(local_of(alloc, self.folder.as_str(), text)?)),
             None => Ok(NamedLocal::Mistaken(of_word(
                 alloc,
                 word,
@@ -257,17 +274,18 @@ impl Shell {
         }
     }
 
-    /// `get`. From the folder that it is to write to goes what stopped fetches left.
+    /// `get`. From the folder that it is to write to goes what stopped fetches left. As of a `put`, what a word
+    /// names that ends in `/.` isn't put into a folder under its own name: a `get` that was stopped goes on so.
     fn get<F: Folder>(
         &self,
         alloc: Global,
         host: &mut F,
         path: Path,
-        word: &[u8],
-        deep: bool,
+        line: &Line,
     ) -> Result<Went, AllocError>
-        ensures { IfOk result (λ w. IsGet path deep w) }
+        ensures { IfOk result (λ w. IsGet path line.now.has_option w) }
     {
+        let word = operand(line, 1);
         let last = match path.as_slice().last() {
             Some(name) => name.try_clone(alloc)?,
             None => Name::copy_of(alloc, b".")?,
@@ -279,13 +297,15 @@ impl Shell {
                 fault_words(LocalFault::BadName),
             )?));
         }
-        match self.local_target(alloc, host, word, last.as_slice())? {
+        let is_named = word.is_empty() || is_component(last_of(operand(line, 0)));
+        let under: &[u8] = if is_named { last.as_slice() } else { b"." };
+        match self.local_target(alloc, host, word, under)? {
             NamedLocal::Path(local) => {
                 host.clear(alloc, folder_of(local.as_str()));
                 Ok(Went::Works(Task::Get {
                     path,
                     local,
-                    deep,
+                    deep: line.has_option,
                     id: None,
                 }))
             }
@@ -433,7 +453,7 @@ impl Shell {
                 let told = go(alloc, remote, &mut self.dir, path)?;
                 Ok(Went::Told(told))
             }
-            Verb::Get => self.get(alloc, host, path, operand(line, 1), line.has_option),
+            Verb::Get => self.get(alloc, host, path, line),
             Verb::Mv => {
                 let dir = self.dir.as_slice();
                 let told = move_named(alloc, remote, dir, path.as_slice(), operand(line, 1))?;

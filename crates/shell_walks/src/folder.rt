@@ -35,6 +35,8 @@ pub enum LocalFault {
     NotText,
     /// It is a symbolic link, and those aren't followed there.
     Link,
+    /// It is a symbolic link that leads to nothing.
+    Nowhere,
     /// It is neither a file nor a folder.
     Odd,
     /// Its name is of the form that a stopped fetch leaves, and so it goes nowhere.
@@ -111,7 +113,8 @@ pub trait Folder {
         ensures { makes self.old path.now result self.new };
 
     /// Removes from a folder the files that stopped fetches left in it: those that were being written (`is_temporary`
-    /// of their names) by a process that isn't there any more. Where that can't be told, or done, they stay.
+    /// of their names) by a process that isn't there any more. Each that goes is told. Where that can't be known, or
+    /// done, they stay.
     fn clear(&mut self, alloc: Global, path: &str)
         ensures { clears self.old path.now self.new };
 }

@@ -103,14 +103,14 @@ pub fn put_why(alloc: Global, out: &mut Bytes, why: Why) -> Result<(), AllocErro
         Why::Order => out.extend_from_slice(b"the client has no such file open"),
         Why::TooBig => out.extend_from_slice(b"the file is too large (64 MiB are the most)"),
         Why::Lost => out.extend_from_slice(
-            b"the connection was lost (is lbfs share still running?); it may have been done, or not",
+            b"the connection was lost (is lbfs share still running?); it may be done, or not",
         ),
         Why::Cut => {
             out.extend_from_slice(b"the connection was lost (is lbfs share still running?)")
         }
         Why::Changed => out.extend_from_slice(b"the file changed each time that it was fetched"),
         Why::NoLink => {
-            out.extend_from_slice(b"no server answers (is lbfs share, or ssh -L, running?)")
+            out.extend_from_slice(b"no server answers (is lbfs share, or ssh -L, running yet?)")
         }
         Why::Refused(status) => put_status(alloc, out, status),
         Why::PeerMemory => out.extend_from_slice(b"the server has no memory left"),
@@ -137,6 +137,7 @@ pub fn fault_words(fault: LocalFault) -> &'static [u8]
         LocalFault::BadName => b"no file here can have this name",
         LocalFault::NotText => b"a name here has to be UTF-8 for this program",
         LocalFault::Link => b"it is a symbolic link in a folder, and isn't followed",
+        LocalFault::Nowhere => b"it is a symbolic link to nothing here",
         LocalFault::Odd => b"it is neither a file nor a folder here",
         LocalFault::LeftOver => b"passed over: a get that is stopped leaves such names",
         LocalFault::Changed => b"it changed here while it was read",
@@ -161,6 +162,7 @@ pub fn mistake_words(mistake: Mistake) -> &'static [u8]
         Mistake::NoSecondPath => b"a second PATH is wanting",
         Mistake::NoLocal => b"LOCAL is wanting",
         Mistake::TooMany => b"there is a word too many (one name at a time)",
+        Mistake::NoName => b"a name is empty",
         Mistake::LongName => b"a name is too long",
         Mistake::LongPath => b"a path has too many names",
     }

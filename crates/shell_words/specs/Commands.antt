@@ -1,5 +1,6 @@
 -- What the words of a line say: a command, whether its option stands behind it, and its operands.
 use Rattle.std.specs.Prelude.{ℕ, List, [], ◌∷◌, Bool, true, false, not, ◌&&◌, ◌==◌, nat_lt, length, take, remove, Option, Some, None, Result, Ok, Err, codes, bytes_eq, if◌then◌else◌}
+use Rattle.std.specs.List.{list_any}
 use Rattle.shell_words.specs.declared.command.Line.{Line}
 use Rattle.shell_words.specs.declared.command.Start.{Start}
 use Rattle.shell_words.specs.declared.command.Start.TheVariants as start
@@ -96,11 +97,16 @@ operands_at start.Later words = Err mistake.NoVersions
 operands_at start.Option words = Err mistake.BadOption
 operands_at start.Known words = Err mistake.BadOption
 
+-- an empty word names nothing
+abbrev pub is_nothing : List ℕ → Bool
+is_nothing word = length word == 0
+
 abbrev pub counted : Verb → (has_option : Bool) → Result (List (List ℕ)) Mistake → Result Line Mistake
 counted v o (Err m) = Err m
 counted v o (Ok operands) =
     if nat_lt (length operands) (least_of v) then Err (wanting v (length operands))
     else if nat_lt (most_of v) (length operands) then Err mistake.TooMany
+    else if list_any is_nothing operands then Err mistake.NoName
     else Ok (record { verb = v; has_option = o; operands = operands })
 
 abbrev pub line_at : Verb → Start → List (List ℕ) → Result Line Mistake

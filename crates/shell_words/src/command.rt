@@ -1,7 +1,8 @@
 //! The commands of a shell: `command_of` of `specs/Commands.antt`.
 
 ghost use Rattle.std.specs.Prelude.{◌≡◌, ◌<◌, length};
-ghost use Rattle.shell_words.specs.Commands.{verb_of, is_option_of, is_later_of, least_of, most_of, wanting, kind_of, start_of, operands_at, counted, line_at, line_of, some_line, first_verb};
+ghost use Rattle.std.specs.List.{list_any};
+ghost use Rattle.shell_words.specs.Commands.{is_nothing, verb_of, is_option_of, is_later_of, least_of, most_of, wanting, kind_of, start_of, operands_at, counted, line_at, line_of, some_line, first_verb};
 ghost use Rattle.shell_words.specs.Commands.{command_of};
 
 use crate::mistake::Mistake;
@@ -184,8 +185,8 @@ fn kind_of(word: &[u8]) -> Start
     }
 }
 
-/// With what words begin.
-fn start_of(verb: Verb, words: &[Name]) -> Start
+/// With what words begin behind a command.
+pub fn start_of(verb: Verb, words: &[Name]) -> Start
     ensures { result ≡ start_of verb words.now }
 {
     match words.first() {
@@ -219,7 +220,19 @@ fn operands_at(start: Start, mut words: Items<Name>) -> Result<Items<Name>, Mist
     }
 }
 
-/// A line with these operands, where they are as many as the command takes.
+/// Whether there is a word without a byte.
+fn has_empty(words: &[Name]) -> bool
+    ensures { result ≡ list_any is_nothing words.now }
+{
+    for word in words {
+        if word.len() == 0 {
+            return true;
+        }
+    }
+    false
+}
+
+/// A line with these operands, where they are as many as the command takes, and each names something.
 fn counted(
     verb: Verb,
     has_option: bool,
@@ -233,6 +246,8 @@ fn counted(
                 Err(wanting(verb, operands.len()))
             } else if verb.most() < operands.len() {
                 Err(Mistake::TooMany)
+            } else if has_empty(operands.as_slice()) {
+                Err(Mistake::NoName)
             } else {
                 Ok(Line {
                     verb,

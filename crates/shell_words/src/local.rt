@@ -91,7 +91,7 @@ impl LocalPath {
         Ok(LocalPath { text })
     }
 
-    /// The name of a file that is being written, in its folder: no other thread's, nor another process's.
+    /// The name of a file that is being written, in its folder, by the process and the number of it.
     pub fn temporary(alloc: Global, process: u32, thread: u32) -> Result<LocalPath, AllocError>
         ensures { IfOk result (λ path. path ≡ temporary process thread) }
     {

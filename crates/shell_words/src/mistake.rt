@@ -26,6 +26,8 @@ pub enum Mistake {
     NoLocal,
     /// There is a word too many.
     TooMany,
+    /// A word has no byte, and so names nothing.
+    NoName,
     /// A name has more bytes than any may have.
     LongName,
     /// A path has more names than any may have.
