@@ -90,7 +90,7 @@ class Numbers:
         return (self.state >> 33) % bound
 
     def moment(self):
-        return "-" if self.below(4) == 0 else str(self.below(8))
+        return "---01234567"[self.below(11)]
 
     def op(self):
         """An operation on file 2 or 3, whose begin, end and point are any."""

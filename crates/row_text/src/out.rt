@@ -89,11 +89,6 @@ impl Out {
         self.numbers(numbers)
     }
 
-    /// A truth value as it is.
-    pub fn truth(&mut self, truth: bool) {
-        self.text(if truth { "true" } else { "false" })
-    }
-
     /// What `Debug` makes of a value.
     pub fn value<T: Debug>(&mut self, value: &T) {
         let done = write!(self.text, "{value:?}");

@@ -3,10 +3,10 @@
 ghost use Rattle.std.specs.Prelude.{◌+◌, ◌^◌, ◌<◌, ◌≤◌, length};
 ghost use Rattle.chunk_cut.specs.Cutting.{fed};
 
-use crate::contents::bytes_of;
 use chunk_cut::chunk::Chunk;
 use chunk_cut::cutter::Cutter;
 use chunk_cut::{cut, digest};
+use row_text::bytes::read_bytes;
 use row_text::out::Out;
 use std::alloc::Global;
 
@@ -64,11 +64,11 @@ fn put_ways(alloc: Global, content: &[u8], wanted: &str, first: usize, out: &mut
     out.text(" ways to come in pieces are alike")
 }
 
-/// `WORD`, or `WORD pieces PLACE`: the chunks of the content, and how many ways to come in pieces, cut
+/// `BYTES`, or `BYTES pieces PLACE`: the chunks of the content, and how many ways to come in pieces, cut
 /// at the place or behind it, are cut so too.
 pub fn put(alloc: Global, row: &str, out: &mut Out) {
-    let (word, place) = row.split_once(" pieces ").unwrap_or((row, ""));
-    let content = bytes_of(alloc, word, out);
+    let (bytes, place) = row.split_once(" pieces ").unwrap_or((row, ""));
+    let content = read_bytes(alloc, bytes, out);
     let mut wanted = Out::new(alloc);
     match cut(alloc, content.as_slice()) {
         Ok(chunks) => put_chunks(chunks.as_slice(), &mut wanted),

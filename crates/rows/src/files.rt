@@ -2,7 +2,7 @@
 //! the others stands for itself.
 
 use crate::histories::Rows;
-use crate::{bodies, clocks, contents, cuts, headers, items, lines, records, streams};
+use crate::{bodies, cuts, headers, items, prints, records, refusals, streams};
 use row_text::out::Out;
 use row_text::text::is_remark;
 use std::alloc::Global;
@@ -22,14 +22,8 @@ pub enum Part {
     Bodies,
     /// Records as messages.
     Records,
-    /// Lines of traces.
-    Lines,
-    /// Contents of files.
-    Contents,
     /// Texts of refusals.
     Refusals,
-    /// Readings of clocks.
-    Clocks,
     /// Fingerprints.
     Prints,
     /// Cuts into chunks.
@@ -47,11 +41,8 @@ fn put_row(alloc: Global, part: Part, rows: &mut Rows, row: &str, out: &mut Out)
         Part::Headers => headers::put(alloc, row, out),
         Part::Bodies => bodies::put(alloc, row, out),
         Part::Records => records::put(alloc, row, out),
-        Part::Lines => lines::put(alloc, row, out),
-        Part::Contents => contents::put(alloc, row, out),
-        Part::Refusals => clocks::put_refusal(alloc, row, out),
-        Part::Clocks => clocks::put(alloc, row, out),
-        Part::Prints => contents::put_prints(alloc, row, out),
+        Part::Refusals => refusals::put(alloc, row, out),
+        Part::Prints => prints::put(alloc, row, out),
         Part::Cuts => cuts::put(alloc, row, out),
         Part::Histories => rows.put(alloc, row, out),
     }

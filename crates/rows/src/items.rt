@@ -5,9 +5,6 @@ use row_text::bytes::{put_bytes, put_same, read_bytes};
 use row_text::out::Out;
 use row_text::text::{first, letter, number, small, split};
 use std::alloc::Global;
-use xdr_codec::answer::Answer;
-use xdr_codec::attr::{Attr, Kind};
-use xdr_codec::digest::Digest;
 use xdr_codec::handle::Handle;
 use xdr_codec::item::{
     Item, read_chain, read_counted, read_item, write_chain, write_counted, write_item,
@@ -106,13 +103,7 @@ impl Copying<'_> {
             b'u' => self.item::<u32>(out),
             b'w' => self.item::<u64>(out),
             b'b' => self.item::<bool>(out),
-            b'k' => self.item::<Kind>(out),
-            b'h' => self.item::<Handle>(out),
-            b'd' => self.item::<Digest>(out),
             b'm' => self.item::<Option<u32>>(out),
-            b'p' => self.item::<Option<Kind>>(out),
-            b'a' => self.item::<Answer<Attr, ()>>(out),
-            b's' => self.item::<Answer<(), Option<u32>>>(out),
             b'f' => self.bytes(true, size, out),
             b'o' => self.bytes(false, size, out),
             b'l' => self.list::<u64>(Some(size), out),

@@ -4,10 +4,20 @@ use crate::histories::Rows;
 use row_text::out::Out;
 use std::alloc::Global;
 
-/// The words of these operations, and how they end.
-const WORDS: [&str; 5] = ["close", "make", "remove", "rename", "open"];
-
-const ENDS: [&str; 6] = [" Opened", " Closed", " 70", " Lost", " Running", " Done"];
+/// What can stand in each place of an operation on file 2 or 3, whose begin, end and point are any: moments below 8, or none.
+static PLACES: [&[&str]; 7] = [
+    &["close", "make", "remove", "rename", "open"],
+    &[" 2", " 3"],
+    &[" 0", " 1", " 2", " 3"],
+    &[
+        " -", " -", " -", " 0", " 1", " 2", " 3", " 4", " 5", " 6", " 7",
+    ],
+    &[
+        " -", " -", " -", " 0", " 1", " 2", " 3", " 4", " 5", " 6", " 7",
+    ],
+    &[" Opened", " Closed", " 70", " Lost", " Running", " Done"],
+    &[" a\n", " b\n"],
+];
 
 /// File 2 is closed and opened again, so many times; the last open got the content.
 pub fn rounds(alloc: Global, count: u64, last: &str) -> Out {
@@ -34,31 +44,13 @@ fn next(state: &mut u64, bound: u64) -> u64 {
     (*state >> 33) % bound
 }
 
-/// One of the words, of which there are so many.
-fn put_some(state: &mut u64, words: &[&str], ops: &mut Out) {
-    if let Some(word) = words.get(next(state, words.len() as u64) as usize) {
-        ops.text(word)
-    }
-}
-
-/// A moment below 8, or none.
-fn put_moment(state: &mut u64, ops: &mut Out) {
-    if next(state, 4) == 0 {
-        ops.text(" -")
-    } else {
-        ops.number(next(state, 8))
-    }
-}
-
-/// An operation on file 2 or 3, whose begin, end and point are any.
+/// One of the operations.
 fn put_op(state: &mut u64, ops: &mut Out) {
-    put_some(state, &WORDS, ops);
-    ops.number(next(state, 2).wrapping_add(2));
-    ops.number(next(state, 4));
-    put_moment(state, ops);
-    put_moment(state, ops);
-    put_some(state, &ENDS, ops);
-    put_some(state, &[" a\n", " b\n"], ops)
+    for words in PLACES.iter() {
+        if let Some(word) = words.get(next(state, words.len() as u64) as usize) {
+            ops.text(word)
+        }
+    }
 }
 
 /// Of so many histories of one to four operations, counted from 1, those that are legal.

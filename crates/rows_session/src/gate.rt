@@ -4,7 +4,7 @@ use row_text::out::Out;
 use row_text::text::number;
 use server_turns::gate::{Gate, Who};
 use std::alloc::Global;
-use std::sync::{Condvar, Mutex, MutexGuard, Wait};
+use std::sync::{Condvar, Mutex, Wait};
 use trial_outside::trial::Trial;
 
 /// Whose turn a word names, by its first letter: the listener's, the ticker's, the sleep of the ticker, that of
@@ -115,19 +115,21 @@ impl<R: Wait> TurnGate<R> {
         }
     }
 
-    /// Waits until a turn may begin. All waiting is done here, by one closure.
-    fn held(&self, code: u64) -> MutexGuard<'_, Order> {
+    /// Waits until a turn or a sleep may begin, which may end at once. All waiting is done here, by one closure.
+    fn begin(&self, code: u64, ends: bool) {
         let order = self.order.lock(&self.rt);
-        self.news
-            .wait_while(&self.rt, order, |order| is_early(order, code))
+        let mut order = self
+            .news
+            .wait_while(&self.rt, order, |order| is_early(order, code));
+        go_on(&mut order, true, ends);
+        drop(order);
+        self.news.notify_all();
     }
 }
 
 impl<R: Wait> Gate for TurnGate<R> {
     fn before(&self, who: Who) {
-        let mut order = self.held(number_of(who, false));
-        go_on(&mut order, true, false);
-        drop(order);
+        self.begin(number_of(who, false), false)
     }
 
     fn after(&self) {
@@ -138,9 +140,6 @@ impl<R: Wait> Gate for TurnGate<R> {
     }
 
     fn sleeps(&self, who: Who) {
-        let mut order = self.held(number_of(who, true));
-        go_on(&mut order, true, true);
-        drop(order);
-        self.news.notify_all();
+        self.begin(number_of(who, true), true)
     }
 }

@@ -2,17 +2,17 @@
 //! back where its client takes nothing.
 //!
 //! What the turns are of is a parameter (`H`), but where the server is made (`put`, `put_held`): so no other function
-//! has it in reach, and that a thread may be given it is shown once.
+//! has it in reach, and that a thread may be given it is shown once. What is said to a server stands in `hashing`, so
+//! that none here has messages in reach.
 
 ghost use Rattle.turn_post.specs.Passes.{IsPassOf};
 
-use crate::hashing::store_pieces;
+use crate::hashing::{say, store_pieces};
 use lb_base::items::Items;
 use lbfs_server::session::{session_both, session_in, session_out};
 use links::clock::FixedClock;
 use record_ends::end::End;
 use row_text::out::Out;
-use server_core::event::Event;
 use server_core::server::Server;
 use server_held::held::{SharedServer, Went};
 use server_held::turns::Turns;
@@ -30,7 +30,6 @@ use trial_outside::line::Until;
 use trial_outside::port::{Port, PortLink, Three, three_of};
 use trial_outside::tried_store::{TriedStore, TriedSyncs};
 use turn_post::post::{Pass, Post};
-use wire::message::{Message, RpcRefusal};
 
 /// What the threads of a server share.
 pub(crate) type SharedOf<H, R> = Shared<H, TriedSyncs, OpenGate, PortLink<R>>;
@@ -115,19 +114,13 @@ fn speak_to<R: Wait + Clock + Copy + Drop, H: Turns + Drop>(
         thread::sleep(rt, Duration::from_millis(10));
     }
     if others.says {
-        let event = Event::Got {
-            session,
-            message: Message::Unfit(7, RpcRefusal::ProcUnavail),
-            now: 0,
-        };
-        let (next, _went) = shared.event(rt, pass, event);
-        pass = next;
+        pass = say(rt, shared, pass, session);
         if !others.hashes {
             port.wait(rt, 0, Until::Speaker);
         }
     }
     if others.hangs {
-        let (pass, _went) = shared.event(rt, pass, Event::Hang { session });
+        let pass = shared.hang(rt, pass, session);
         drop(shared.shut_links(rt, pass));
     }
 }
@@ -188,7 +181,7 @@ fn put_connections<R: Wait + Copy + Drop, H: Turns + Drop>(
     let mut pass = pass;
     let mut stand = 0u64;
     for next in 1..67u32 {
-        let (later, went) = shared.event(rt, pass, Event::Connect);
+        let (later, went) = shared.connect(rt, pass);
         pass = later;
         match went {
             Went::Open { session } if session == next || !are_first => {
@@ -281,7 +274,7 @@ fn put_shared<R: Threads + Wait + Clock + Sync + Send + Copy + Drop, H: Turns + 
         Kind::Alone => None,
         Kind::Beside(others) => Some(others),
     };
-    let (pass, went) = shared.event(rt, pass, Event::Connect);
+    let (pass, went) = shared.connect(rt, pass);
     match went {
         Went::Open { session } => { put_session(rt, shared, pass, session, port, others, out) }
         went => out.text(refused_of(went)),

@@ -17,11 +17,10 @@ use std::thread::Threads;
 pub fn put<R: Threads + Wait + Clock + Sync>(rt: &R, alloc: Global, out: &mut Out) {
     lists::put(alloc, out);
     for limit in [6usize, 5, 4, 0] {
-        sources::put_read(alloc, 2, limit, &[], out);
+        sources::put_read(alloc, "gives=2", limit, out);
     }
-    sources::put_read(alloc, 9, 9, &[0], out);
+    sources::put_read(alloc, "source=0", 9, out);
     sources::put_takes(alloc, out);
-    sources::put_sure(alloc, out);
     sinks::put(alloc, out);
     for interrupts in [3u32, 300] {
         streams::put_idle(interrupts, out);

@@ -24,7 +24,7 @@ fn line_len(text: &[u8]) -> usize {
 /// notes how many answers had appeared before each call.
 pub struct Typist<'a> {
     /// What is left of it.
-    text: &'a [u8],
+    pub(crate) text: &'a [u8],
     zeros: usize,
     piece: usize,
     is_by_line: bool,
@@ -34,7 +34,7 @@ pub struct Typist<'a> {
     answers: &'a AtomicU64,
     /// How many answers had appeared before each call.
     pub seen: Vec<u64>,
-    faults: u64,
+    pub(crate) faults: u64,
 }
 
 // By hand, as below: docs/proving/dropping.md.
@@ -127,7 +127,7 @@ pub struct Screen<'a> {
     starved: Option<u64>,
     calls: u64,
     answers: &'a AtomicU64,
-    faults: u64,
+    pub(crate) faults: u64,
 }
 
 impl<'a> Drop for Screen<'a> {

@@ -37,6 +37,17 @@ fn found<'a>(text: &'a str, apart: char, mark: char, key: &str) -> &'a str {
 }
 
 impl<'x> Trial<'x> {
+    /// One that has nothing but these settings.
+    pub fn set(settings: &'x str) -> Trial<'x> {
+        Trial {
+            words: "",
+            settings,
+            links: "",
+            input: "",
+            records: "",
+        }
+    }
+
     /// The word of the setting `KEY=WORD`; an empty one where it isn't there.
     pub fn word(&self, key: &str) -> &'x str {
         found(self.settings, ' ', '=', key)

@@ -28,7 +28,7 @@ enum Kind {
 }
 
 /// The files of rows.
-const FILES: [(Kind, &str); 16] = [
+const FILES: [(Kind, &str); 13] = [
     (Kind::Parts(Part::Items), "items"),
     (Kind::Parts(Part::Handles), "handles"),
     (Kind::Parts(Part::Streams), "streams"),
@@ -36,10 +36,7 @@ const FILES: [(Kind, &str); 16] = [
     (Kind::Parts(Part::Bodies), "nfs"),
     (Kind::Parts(Part::Bodies), "lbfs"),
     (Kind::Parts(Part::Records), "records"),
-    (Kind::Parts(Part::Lines), "lines"),
-    (Kind::Parts(Part::Contents), "contents"),
     (Kind::Parts(Part::Refusals), "refusals"),
-    (Kind::Parts(Part::Clocks), "clocks"),
     (Kind::Parts(Part::Prints), "prints"),
     (Kind::Parts(Part::Cuts), "cuts"),
     (Kind::Parts(Part::Histories), "histories"),

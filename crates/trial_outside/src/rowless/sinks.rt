@@ -1,33 +1,25 @@
-//! Sinks in memory: all bytes are given, or a front.
+//! Bytes that are given to a screen: all of them, or a front.
 
-use lb_base::mem_sink::{MemSink, SureSink};
+use crate::screen::Screen;
+use crate::trial::Trial;
 use lb_base::sink::give_all;
 use row_text::out::Out;
-use row_text::text::copied;
 use std::alloc::Global;
+use std::sync::atomic::AtomicU64;
 
-/// What comes of giving bytes: the answer, how many bytes the sink has then, and its faults.
-fn give(sink: &mut MemSink, bytes: &[u8], out: &mut Out) {
-    out.value(&give_all(sink, bytes));
-    out.numbers(&[sink.held().len() as u64, sink.faults()]);
-    out.text(", ")
-}
-
-/// What comes of giving three times to a sink that takes two bytes at once, whose second call
-/// answers that memory ran out, and whose third one fails; whether it has all then; and whether a sink that never
-/// fails takes all.
+/// What comes of giving three times to a screen that takes two bytes at once, whose second call answers that memory
+/// ran out, and whose third one fails: each time the answer, how many bytes it has then, and its faults; and what it
+/// has at last.
 pub fn put(alloc: Global, out: &mut Out) {
-    let failing = copied(alloc, &[2u64], out);
-    let starved = copied(alloc, &[1u64], out);
-    let mut sink = MemSink::new(alloc, 2, failing, starved);
+    let answers = AtomicU64::new(0);
+    let mut screen = Screen::new(alloc, &Trial::set("takes=2 starved=1 sink=2"), &answers);
     out.text("given: ");
-    give(&mut sink, b"hello", out);
-    give(&mut sink, b"llo", out);
-    give(&mut sink, b"llo", out);
-    let mut sure = SureSink::new(alloc, 2);
-    let is_given = give_all(&mut sure, b"hello").is_ok();
-    let is_whole = sink.held() == b"hello".as_slice();
-    let is_sure = sure.held() == b"hello".as_slice();
-    out.say("whole", &[is_whole as u64, is_given as u64, is_sure as u64]);
+    let all = b"hello all";
+    for at in [0usize, 2, 2] {
+        out.value(&give_all(&mut screen, &all[at..]));
+        out.numbers(&[screen.text.len() as u64, screen.faults]);
+        out.text(", ");
+    }
+    out.letters(screen.text.as_slice());
     out.line("")
 }

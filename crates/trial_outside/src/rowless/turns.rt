@@ -11,7 +11,7 @@ use std::alloc::{AllocError, Global};
 use std::rt::Clock;
 use std::sync::Wait;
 use std::thread;
-use std::thread::{Threads, join};
+use std::thread::{Scope, Threads};
 use std::time::Duration;
 use turn_post::journaled::Journaled;
 use turn_post::post::{Pass, Post};
@@ -70,47 +70,51 @@ fn add_all<R: Wait + Clock>(rt: &R, post: &Post<Tally>, pass: Pass<Tally>, turns
     }
 }
 
-/// Two threads add the numbers from a first one on, and from a thousand more.
-fn add_both<R: Threads + Wait + Clock + Sync>(
-    rt: &R,
-    post: &Post<Tally>,
+/// All threads but one begin, each with a pass and numbers of its own; the pass that is left is the last one's.
+fn begin_others<'s, 'e, R: Threads + Wait + Clock + Sync>(
+    scope: &'s Scope<'s, &'e ()>,
+    rt: &'e R,
+    post: &'e Post<Tally>,
     pass: Pass<Tally>,
     turns: Turns,
-    first: u64,
-)
+) -> Pass<Tally>
     requires { IsPassOf post.now pass }
+    ensures { IsPassOf post.now result }
 {
-    let (one, two) = post.split(pass);
-    join(
-        rt,
-        move ||
-            requires { IsPassOf post.now one }
-        { add_all(rt, post, one, turns, first) },
-        move ||
-            requires { IsPassOf post.now two }
-        { add_all(rt, post, two, turns, first.wrapping_add(1000)) },
-    );
+    let mut pass = pass;
+    for at in 1..turns.threads {
+        let (next, rest) = post.split(pass);
+        pass = rest;
+        let first = at.saturating_mul(1000);
+        let other = scope.spawn(
+            move ||
+                requires { IsPassOf post.now next }
+            { add_all(rt, post, next, turns, first) },
+        );
+        drop(other);
+    }
+    pass
 }
 
-/// Four threads do.
-fn add_four<R: Threads + Wait + Clock + Sync>(
-    rt: &R,
-    post: &Post<Tally>,
+/// All threads add their numbers; it returns once they have.
+fn add_each<'x, R: Threads + Wait + Clock + Sync>(
+    rt: &'x R,
+    post: &'x Post<Tally>,
     pass: Pass<Tally>,
     turns: Turns,
 )
     requires { IsPassOf post.now pass }
 {
-    let (one, two) = post.split(pass);
-    join(
+    thread::scope(
+        thread::scope_env(),
         rt,
-        move ||
-            requires { IsPassOf post.now one }
-        { add_both(rt, post, one, turns, 1000) },
-        move ||
-            requires { IsPassOf post.now two }
-        { add_both(rt, post, two, turns, 3000) },
-    );
+        move |scope|
+            requires { IsPassOf post.now pass }
+        {
+            let last = begin_others(scope, rt, post, pass, turns);
+            add_all(rt, post, last, turns, turns.threads.saturating_mul(1000))
+        },
+    )
 }
 
 /// Whether those of the numbers that one thread added are all that it had to add, in their order.
@@ -151,11 +155,7 @@ fn put_turns<R: Threads + Wait + Clock + Sync>(
     requires { IsPassOf post.now pass }
 {
     let (busy, idle) = post.split(pass);
-    if turns.threads == 2 {
-        add_both(rt, post, busy, turns, 1000);
-    } else {
-        add_four(rt, post, busy, turns);
-    }
+    add_each(rt, post, busy, turns);
     let mut idle = idle;
     let front = post.front(&mut idle);
     let turn = post.enter(rt, idle);
