@@ -1,9 +1,9 @@
 #!/usr/bin/env bash
 # Measures what a new lease costs in `lease_table`: each of 64 sessions has leases on 64 files, on 2,048
 # or on 4,096; in each table 256 leases on further files are granted, to sessions and on files as a
-# generator of numbers picks them, and dropped again; then as often one before all others. The program
-# that does it is made in a copy outside the repository (bench/made). The script reports the medians and
-# judges nothing.
+# generator of numbers picks them, and dropped again, each by a RECALL and its answer; then as often one
+# before all others. The program that does it is made in a copy outside the repository (bench/made). The
+# script reports the medians and judges nothing.
 #
 #   bench/leases.sh [ROUNDS]     9 rounds, where not said otherwise
 #
@@ -79,12 +79,18 @@ fn grant_all(leases: &mut Leases, files: u64) -> Result<(), AllocError> {
     Ok(())
 }
 
+/// A session's lease goes: it is asked for, and the answer gives it up.
+fn drop_one(leases: &mut Leases, session: u32, file: u64) {
+    leases.mark_recalled(session, file, 1);
+    leases.answered(session, 1);
+}
+
 /// Drops them again.
 fn drop_all(leases: &mut Leases, files: u64) {
     let mut state = 1;
     for _ in 0..GRANTS {
         state = next(state);
-        leases.drop_one(session_of(state), file_of(state, files));
+        drop_one(leases, session_of(state), file_of(state, files));
     }
 }
 
@@ -92,7 +98,7 @@ fn drop_all(leases: &mut Leases, files: u64) {
 fn turn_first(leases: &mut Leases) -> Result<(), AllocError> {
     for _ in 0..GRANTS {
         leases.grant(1, 1, 0, 60_000)?;
-        leases.drop_one(1, 1);
+        drop_one(leases, 1, 1);
     }
     Ok(())
 }

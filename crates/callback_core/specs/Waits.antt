@@ -1,7 +1,7 @@
 -- Changes that wait, one queue a file in the order of arrival, and which of them may be made. What a
 -- change of the file asks for, its COMMITTMP, REMOVE or RENAME, waits until nobody else's lease says
 -- that the file stays as it is (Gray and Cheriton, SOSP 1989).
-use Rattle.std.specs.Prelude.{◌≡◌, ℕ, List, [], ◌∷◌, ◌++◌, Option, Some, None, Result, Ok, Err, Bool, true, false, not, ◌==◌, cond, find, filter, map, sum_by, AllPairs, length, ◌≤◌, ◌<◌, ◌^◌}
+use Rattle.std.specs.Prelude.{◌≡◌, ℕ, List, [], ◌∷◌, ◌++◌, Option, Some, None, Bool, not, ◌==◌, cond, find, filter, map, sum_by, AllPairs, length, ◌≤◌, ◌<◌, ◌^◌}
 use Rattle.std.specs.List.{list_any}
 use Rattle.lease_rules.specs.declared.lease.Lease.{Lease}
 use Rattle.lease_table.specs.Leases.{is_blocked, others}
@@ -9,8 +9,6 @@ pub use Rattle.lease_rules.specs.Changes.{asker_of, asker, is_about, meets, wait
 pub use Rattle.lease_rules.specs.Places.{places_of}
 use Rattle.lease_rules.specs.declared.change.PendingChange.{PendingChange}
 use Rattle.lease_rules.specs.declared.change.Recall.{Recall}
-use Rattle.lease_rules.specs.declared.change.AskError.{AskError}
-use Rattle.lease_rules.specs.declared.change.AskError.TheVariants.{Jukebox, Memory}
 
 -- the session is asked for its lease on the file
 abbrev pub recall_of : (file session : ℕ) → Recall
@@ -93,9 +91,3 @@ module _ {P : Type 0} where
     pub places : length waits ≤ room
     pub entries : entries_of waits < 2 ^ 64
     pub bytes : bytes_of waits < 2 ^ 64
-
--- A change may not wait exactly where its session has one that waits; running out of memory comes after that.
-abbrev pub IsAnswered : {T : Type 0} → Result T AskError → (has : Bool) → Type 0
-IsAnswered (Ok _) has = has ≡ false
-IsAnswered (Err Jukebox) has = has ≡ true
-IsAnswered (Err Memory) has = has ≡ false

@@ -3,12 +3,11 @@
 ghost use Rattle.std.specs.Prelude.{◌≡◌, ◌+◌, ◌<◌, ◌≤◌, ◌^◌, ◌∷◌, ◌++◌, [], OnOk, OnErr, IfOk, IsSome, ◌⊎◌, map, length, vec_len, vec_capacity, ℕ, false, IsOk};
 ghost use Rattle.lease_table.specs.Leases.{grant, lease_at};
 ghost use Rattle.callback_core.specs.BackCalls.{all_marked};
-ghost use Rattle.callback_core.specs.Waits.{recall_of, recalls_of, recalls_due, has_wait, entries_of, bytes_of, IsAnswered, AreBounded};
+ghost use Rattle.callback_core.specs.Waits.{recall_of, recalls_of, has_wait, entries_of, bytes_of, AreBounded};
 
 use crate::back_calls::Asked;
-use crate::ready::has;
 use lb_base::items::Items;
-use lease_rules::change::{AskError, PendingChange, Recall};
+use lease_rules::change::{PendingChange, Recall};
 use lease_table::table::Leases;
 use std::alloc::{AllocError, Global};
 
@@ -50,18 +49,6 @@ pub fn mark_all(leases: &mut Leases, asked: &[Asked])
     }
 }
 
-/// The recalls that a change asks for when it comes.
-fn recalls_due<P>(
-    alloc: Global,
-    leases: &Leases,
-    change: &PendingChange<P>,
-    now: u64,
-) -> Result<Items<Recall>, AllocError>
-    ensures { IfOk result (λ recalls. recalls ≡ recalls_due leases.now.leases now change.now) }
-{
-    recalls_of(alloc, leases, change.file, change.asker(), now)
-}
-
 /// Makes room for one change more, and for its lease. The one error is running out of memory, which
 /// never comes where there is room; nothing else changes.
 pub fn make_room<P>(
@@ -96,60 +83,6 @@ pub fn push<P: Drop>(waits: &mut Vec<PendingChange<P>>, change: PendingChange<P>
     ensures bounded { (room : ℕ) → AreBounded waits.old.items room → length waits.old.items < room → AreBounded waits.new.items room }
 {
     waits.push_reserved(change);
-}
-
-/// A change comes and waits, and its lease has a place. The one error is running out of memory.
-fn add<P: Drop>(
-    leases: &mut Leases,
-    waits: &mut Vec<PendingChange<P>>,
-    change: PendingChange<P>,
-) -> Result<(), AllocError>
-    requires bounded { AreBounded waits.old.items leases.old.room }
-    requires new { has_wait waits.old.items change.session ≡ false }
-    requires entries { entries_of waits.old.items + change.entries < 2 ^ 64 }
-    requires bytes { bytes_of waits.old.items + change.bytes < 2 ^ 64 }
-    ensures ok { OnOk result (waits.new.items ≡ waits.old.items ++ change ∷ []) }
-    ensures err { OnErr result (waits.new.items ≡ waits.old.items) }
-    ensures ok_len { OnOk result (vec_len waits.new ≡ vec_len waits.old + 1) }
-    ensures err_len { OnErr result (vec_len waits.new ≡ vec_len waits.old) }
-    ensures capacity { vec_capacity waits.old ≤ vec_capacity waits.new }
-    ensures leases { leases.new.leases ≡ leases.old.leases }
-    ensures room { leases.old.room ≤ leases.new.room }
-    ensures bounded { AreBounded waits.new.items leases.new.room }
-{
-    make_room(leases, waits)?;
-    push(waits, change);
-    Ok(())
-}
-
-/// A change comes and waits.
-pub fn ask<P: Drop>(
-    alloc: Global,
-    leases: &mut Leases,
-    waits: &mut Vec<PendingChange<P>>,
-    change: PendingChange<P>,
-    now: u64,
-) -> Result<Items<Recall>, AskError>
-    requires bounded { AreBounded waits.old.items leases.old.room }
-    requires entries { entries_of waits.old.items + change.entries < 2 ^ 64 }
-    requires bytes { bytes_of waits.old.items + change.bytes < 2 ^ 64 }
-    ensures answered { IsAnswered result (has_wait waits.old.items change.session) }
-    ensures recalls { IfOk result (λ recalls. recalls ≡ recalls_due leases.old.leases now change) }
-    ensures ok { OnOk result (waits.new.items ≡ waits.old.items ++ change ∷ []) }
-    ensures err { OnErr result (waits.new.items ≡ waits.old.items) }
-    ensures ok_len { OnOk result (vec_len waits.new ≡ vec_len waits.old + 1) }
-    ensures err_len { OnErr result (vec_len waits.new ≡ vec_len waits.old) }
-    ensures capacity { vec_capacity waits.old ≤ vec_capacity waits.new }
-    ensures leases { leases.new.leases ≡ leases.old.leases }
-    ensures room { leases.old.room ≤ leases.new.room }
-    ensures bounded { AreBounded waits.new.items leases.new.room }
-{
-    if has(waits, change.session) {
-        return Err(AskError::Jukebox);
-    }
-    let recalls = recalls_due(alloc, leases, &change, now)?;
-    add(leases, waits, change)?;
-    Ok(recalls)
 }
 
 /// Makes room for so many leases beside those that the changes have their places for. The one error

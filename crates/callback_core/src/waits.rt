@@ -1,15 +1,15 @@
 //! The pending changes, and the leases that they wait for. `specs/Waits.antt` has the words of the
 //! contracts.
 
-ghost use Rattle.std.specs.Prelude.{◌≡◌, ◌+◌, ◌<◌, ◌≤◌, ◌^◌, ◌∷◌, ◌++◌, [], OnOk, OnErr, IfOk, IsOk, IsSome, IsTrue, ◌↔◌, ◌⊎◌, option_copied, false, length};
-ghost use Rattle.lease_table.specs.Leases.{grant, without_lease, marked, without_recalled, without_ended, without_session, is_blocked, others, lease_at};
+ghost use Rattle.std.specs.Prelude.{◌≡◌, ◌+◌, ◌<◌, ◌≤◌, ◌^◌, ◌∷◌, ◌++◌, [], OnOk, OnErr, IfOk, IsOk, IsSome, ◌⊎◌, false, length};
+ghost use Rattle.lease_table.specs.Leases.{grant, without_recalled, without_ended, without_session, lease_at};
 ghost use Rattle.callback_core.specs.BackCalls.{all_marked};
-ghost use Rattle.callback_core.specs.Waits.{recalls_due, recalls_of, ready, change_of, has_wait, waits_on, without, without_made, places_of, entries_of, bytes_of, IsAnswered};
+ghost use Rattle.callback_core.specs.Waits.{recalls_of, ready, change_of, has_wait, waits_on, without, without_made, places_of, entries_of, bytes_of};
 
 use crate::back_calls::Asked;
 use crate::{asking, ready, sizes};
 use lb_base::items::Items;
-use lease_rules::change::{AskError, PendingChange, Recall};
+use lease_rules::change::{PendingChange, Recall};
 use lease_rules::leaving::{KeepsLeases, hang, take_out};
 use lease_table::table::Leases;
 use std::alloc::{AllocError, Global};
@@ -26,7 +26,7 @@ pub struct Waits<P: Drop> {
 }
 
 impl<P: Drop> Model for Waits<P> {
-    ghost use Rattle.std.specs.Prelude.{◌-◌, ◌<◌, ◌≤◌, ◌^◌, length, min, vec_len, vec_capacity, AllPairs};
+    ghost use Rattle.std.specs.Prelude.{◌-◌, ◌<◌, ◌≤◌, ◌^◌, length, min, vec_len, vec_capacity};
     ghost use Rattle.callback_core.specs.Waits.{Waiting, AreBounded};
 
     ghost Value = { Waiting P };
@@ -54,31 +54,6 @@ impl<P: Drop> Waits<P> {
         }
     }
 
-    /// A change comes, at this reading of the server's clock in milliseconds, and waits. The answer
-    /// has the recalls that are due: of all leases that block it and that no RECALL asked for. It
-    /// may not wait where its session has a pending change; else the one error is running out of memory.
-    /// An `Err` changes nothing.
-    pub fn ask(
-        &mut self,
-        alloc: Global,
-        change: PendingChange<P>,
-        now: u64,
-    ) -> Result<Items<Recall>, AskError>
-        requires entries { entries_of self.old.waits + change.entries < 2 ^ 64 }
-        requires bytes { bytes_of self.old.waits + change.bytes < 2 ^ 64 }
-        ensures answered { IsAnswered result (has_wait self.old.waits change.session) }
-        ensures recalls { IfOk result (λ recalls. recalls ≡ recalls_due self.old.leases now change) }
-        ensures ok { OnOk result (self.new.waits ≡ self.old.waits ++ change ∷ []) }
-        ensures err { OnErr result (self.new.waits ≡ self.old.waits) }
-        ensures spare { self.old.spare ≤ self.new.spare + 1 }
-        ensures err_spare { OnErr result (self.old.spare ≤ self.new.spare) }
-        ensures room { self.old.room ≤ self.new.room + 1 }
-        ensures err_room { OnErr result (self.old.room ≤ self.new.room) }
-        ensures leases { self.new.leases ≡ self.old.leases }
-    {
-        asking::ask(alloc, &mut self.leases, &mut self.waits, change, now)
-    }
-
     /// Makes room for one change more, and for the lease that is granted when it is made. The one error
     /// is running out of memory, which never comes where there is room; nothing else changes.
     pub fn make_room(&mut self) -> Result<(), AllocError>
@@ -93,7 +68,7 @@ impl<P: Drop> Waits<P> {
     }
 
     /// A change waits, for which there is room. It takes no memory. The recalls that are due are those
-    /// to `others`, with the change's asker.
+    /// of `recalls_due`, with the change's asker.
     pub fn wait(&mut self, change: PendingChange<P>)
         requires new { has_wait self.old.waits change.session ≡ false }
         requires room { 0 < self.old.room }
@@ -105,15 +80,6 @@ impl<P: Drop> Waits<P> {
         ensures spare { self.new.spare + 1 ≡ self.old.spare }
     {
         asking::push(&mut self.waits, change);
-    }
-
-    /// The change that is made next at this reading of the server's clock: of the first of each
-    /// file, the one that came first of those that no lease blocks. It takes no memory.
-    pub fn ready(&self, now: u64) -> Option<&PendingChange<P>>
-        ensures { option_copied result ≡ ready self.now.leases now self.now.waits }
-    {
-        let at = ready::place_of_ready(&self.waits, &self.leases, now)?;
-        self.waits.get(at)
     }
 
     /// Takes out the change that is made next at this reading of the server's clock, if there is
@@ -198,27 +164,6 @@ impl<P: Drop> Waits<P> {
         asking::grant(&mut self.leases, &self.waits, session, file, now, term)
     }
 
-    /// The session has no lease on the file any more. It takes no memory.
-    pub fn drop_one(&mut self, session: u32, file: u64)
-        ensures leases { self.new.leases ≡ without_lease self.old.leases session file }
-        ensures spare { self.old.spare ≤ self.new.spare }
-        ensures room { self.old.room ≤ self.new.room }
-        ensures waits { self.new.waits ≡ self.old.waits }
-    {
-        self.leases.drop_one(session, file);
-    }
-
-    /// The session's lease on the file remembers the xid of the RECALL that asks for it, if it is
-    /// there. It takes no memory.
-    pub fn mark_recalled(&mut self, session: u32, file: u64, xid: u32)
-        ensures leases { self.new.leases ≡ marked self.old.leases session file xid }
-        ensures spare { self.old.spare ≤ self.new.spare }
-        ensures room { self.old.room ≤ self.new.room }
-        ensures waits { self.new.waits ≡ self.old.waits }
-    {
-        self.leases.mark_recalled(session, file, xid);
-    }
-
     /// The session answered the RECALL with this xid: the lease that remembers it is no more, and
     /// no other. It takes no memory.
     pub fn answered(&mut self, session: u32, xid: u32)
@@ -251,22 +196,6 @@ impl<P: Drop> Waits<P> {
         self.leases.forget_ended(now);
     }
 
-    /// The sessions, in their order, whose leases on the file are to be asked for back where this
-    /// session asks for a change of it: those of others that have not ended at this reading of the
-    /// server's clock, and that no RECALL asked for. Session 0 is nobody. The one error is running
-    /// out of memory.
-    pub fn others(
-        &self,
-        alloc: Global,
-        file: u64,
-        session: u32,
-        now: u64,
-    ) -> Result<Items<u32>, AllocError>
-        ensures { IfOk result (λ sessions. sessions ≡ others self.now.leases session file now) }
-    {
-        self.leases.others(alloc, file, session, now)
-    }
-
     /// The recalls that are due where this session asks for a change of the file: of all leases that
     /// block it and that no RECALL asked for. Session 0 is nobody. The one error is running out of memory.
     pub fn recalls_due(
@@ -296,20 +225,5 @@ impl<P: Drop> Waits<P> {
         ensures { result ≡ length self.now.waits }
     {
         self.waits.len()
-    }
-
-    /// Whether no change waits. It takes no memory.
-    pub fn is_empty(&self) -> bool
-        ensures { IsTrue result ↔ (self.now.waits ≡ []) }
-    {
-        self.waits.is_empty()
-    }
-
-    /// Whether a lease of another session than this one on the file has not ended at this reading
-    /// of the server's clock, recalled or not. Session 0 is nobody. It takes no memory.
-    pub fn blocked(&self, file: u64, session: u32, now: u64) -> bool
-        ensures { result ≡ is_blocked self.now.leases session file now }
-    {
-        self.leases.blocked(file, session, now)
     }
 }

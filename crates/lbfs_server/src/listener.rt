@@ -33,6 +33,8 @@ pub enum Stop {
     Doubt,
     /// No thread could be had that makes changes which wait.
     NoThread,
+    /// Memory ran out before any link was taken.
+    Memory,
 }
 
 /// Serves a session on its link and the link's twin: one thread takes records and puts out their

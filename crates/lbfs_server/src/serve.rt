@@ -8,10 +8,9 @@ ghost use Rattle.lbfs_server.specs.Serve.{IsServerOf, IsBad, IsFront, quiet_from
 ghost use Rattle.lbfs_server.specs.declared.listener.Stop.{Stop};
 ghost use Rattle.lbfs_server.specs.declared.listener.Stop.TheVariants as stops;
 ghost use Rattle.lbfs_server.specs.declared.serve.ServeError.TheVariants as errors;
-ghost use Rattle.server_held.specs.Kept.{KeepsTree, journal_of};
+ghost use Rattle.server_held.specs.Kept.{KeepsTree};
 ghost use Rattle.store.specs.declared.store.StoreError.TheVariants as store_errors;
 ghost use Rattle.server_law.specs.Facts.{Holds};
-ghost use Rattle.turn_post.specs.Passes.{IsPassOf, seen};
 ghost use mathlib.Core.List.{IsPrefix};
 
 use crate::hints::{content_ids, learn_all};
@@ -31,7 +30,8 @@ use store::store::{Store, StoreError};
 use synced_store::syncs::{Synced, Syncs};
 use tree_load::error::LoadError;
 use tree_load::load::load;
-use turn_post::post::{Pass, Post};
+use turn_post::journaled::Journaled;
+use turn_post::post::Post;
 
 /// How many bytes of memory the temporary files of all sessions may hold together.
 const TEMPS_HELD_MOST: u64 = 1 << 30;
@@ -61,19 +61,20 @@ pub enum ServeError {
     NoThread,
 }
 
-/// A server of the tree of a store's records.
+/// A server of the tree of a store's records, and what makes the store sure of what it is given. That is asked
+/// for first: so no server is dropped for want of it.
 #[tactic(auto, using(crate::proofs::Serving::by_opened))]
-fn opened<R: Threads + Sync, S: Store>(
+fn opened<R: Threads + Sync, S: Synced>(
     rt: &R,
     alloc: Global,
     store: &mut S,
     place: &str,
     term: u32,
-) -> Result<Server, ServeError>
-    ensures tree { IfOk result (IsServerOf (S.records store.old) term) }
+) -> Result<(Server, S::Y), ServeError>
+    ensures tree { IfOk result (λ made. IsServerOf (S.records store.old) term made.0) }
     ensures place { OnOk result (S.records store.old ≡ S.there store.old place.now) }
-    ensures opened { IfOk result (λ server. Holds server.tree server) }
-    ensures kept { IfOk result (λ server. KeepsTree (S.records store.new) server.tree) }
+    ensures opened { IfOk result (λ made. Holds made.0.tree made.0) }
+    ensures kept { IfOk result (λ made. KeepsTree (S.records store.new) made.0.tree) }
     ensures store { IsErrOf result errors.Store → Rose (S.faults store.old) (S.faults store.new) }
     ensures record { (which : ℕ) → IsErrOf result (errors.BadRecord which) → IsBad (S.records store.old) which }
     ensures network { IsErrOf result errors.Network → ⊥ }
@@ -83,6 +84,10 @@ fn opened<R: Threads + Sync, S: Store>(
         Ok(records) => records,
         Err(StoreError::Failed) => return Err(ServeError::Store),
         Err(StoreError::Memory) => return Err(ServeError::Memory),
+    };
+    let syncs = match store.syncs() {
+        Ok(syncs) => syncs,
+        Err(_want) => return Err(ServeError::Memory),
     };
     let files = match content_ids(alloc, &records) {
         Ok(files) => files,
@@ -97,7 +102,7 @@ fn opened<R: Threads + Sync, S: Store>(
         Ok(mut server) => {
             server.bound_temps(TEMPS_HELD_MOST);
             learn_all(&mut server, files.as_slice());
-            Ok(server)
+            Ok((server, syncs))
         }
         Err(_) => Err(ServeError::Memory),
     }
@@ -123,21 +128,13 @@ fn changes_in(long: u64) -> u64
     long.saturating_sub(1)
 }
 
-/// What threads share, in a post: it lies in a box, so that a turn moves a pointer to it. Where memory runs out
-/// its store comes back.
-fn posted<S: Store + Drop>(
-    alloc: Global,
-    held: SharedServer<S>,
-) -> Result<(Post<Box<SharedServer<S>>>, Pass<Box<SharedServer<S>>>), S>
-    ensures { IfOk result (λ p. IsPassOf p.0 p.1 × (seen p.1 ≡ journal_of held.kept)) }
+/// What threads share, in a box, so that a turn moves a pointer to it. Where memory runs out its store comes back.
+fn boxed<S: Store + Drop>(alloc: Global, held: SharedServer<S>) -> Result<Box<SharedServer<S>>, S>
+    ensures { IfOk result (λ made. made.value.kept ≡ held.kept) }
 {
-    let held = match Box::new(alloc, held) {
-        Ok(held) => held,
-        Err(AllocFailed { value }) => return Err(value.into_store()),
-    };
-    match Post::new(alloc, held) {
+    match Box::new(alloc, held) {
         Ok(made) => Ok(made),
-        Err(held) => Err(store_of(held)),
+        Err(AllocFailed { value }) => Err(value.into_store()),
     }
 }
 
@@ -190,6 +187,7 @@ fn closed<S: Synced>(
         Err(Stop::NoThread) => Err(ServeError::NoThread),
         // Its close would have failed.
         Err(Stop::Doubt) => Err(ServeError::Memory),
+        Err(Stop::Memory) => Err(ServeError::Memory),
     }
 }
 
@@ -206,8 +204,7 @@ fn serve_post<
 >(
     rt: &R,
     alloc: Global,
-    post: Post<H>,
-    pass: Pass<H>,
+    held: H,
     syncs: Y,
     net: N,
     clock: &C,
@@ -219,14 +216,20 @@ fn serve_post<
 ) -> (Result<(), Stop>, N, u64, H)
 where
     N::L: Drop + Send,
-    requires { IsPassOf post pass }
     ensures front { result.2 ≡ length (H.journal result.3) }
-    ensures seen { IsPrefix (seen pass) (H.journal result.3) }
+    ensures seen { IsPrefix (H.journal held) (H.journal result.3) }
     ensures counted { OnOk result.0 (CountsMore (N.accepted net) sessions (N.accepted result.1)) }
     ensures at { OnOk result.0 (N.at result.1 ≡ Some port) }
     ensures cause { IsErrOf result.0 stops.Network → Rose (N.faults net) (N.faults result.1) }
     ensures alone { IsErrOf result.0 stops.NoThread → result.1 ≡ net }
 {
+    let (post, pass) = match Post::new(alloc, held) {
+        Ok(made) => made,
+        Err(held) => {
+            let long = held.count();
+            return (Err(Stop::Memory), net, long, held);
+        }
+    };
     let shared = Shared::new(alloc, post, syncs, gate, quiet);
     let (ended, net, pass) = serve_links(rt, &shared, pass, net, clock, rest, port, sessions);
     let (long, held) = shared.finish(rt, pass);
@@ -277,20 +280,17 @@ where
 {
     let mut store = store;
     let before = store.fault_count();
-    let server = match opened(rt, alloc, &mut store, place, term) {
-        Ok(server) => server,
+    let (server, syncs) = match opened(rt, alloc, &mut store, place, term) {
+        Ok(made) => made,
         Err(error) => return (Err(error), store, net),
     };
     let quiet = quiet_from(server.changes(), clock.now(), term);
-    let Ok(syncs) = store.syncs() else {
-        return (Err(ServeError::Memory), store, net);
-    };
-    let (post, pass) = match posted(alloc, SharedServer::new(alloc, server, store)) {
-        Ok(made) => made,
+    let held = match boxed(alloc, SharedServer::new(alloc, server, store)) {
+        Ok(held) => held,
         Err(store) => return (Err(ServeError::Memory), store, net),
     };
     let (ended, net, long, held) = serve_post(
-        rt, alloc, post, pass, syncs, net, clock, rest, gate, quiet, port, sessions,
+        rt, alloc, held, syncs, net, clock, rest, gate, quiet, port, sessions,
     );
     let front = changes_in(long);
     let mut store = store_of(held);

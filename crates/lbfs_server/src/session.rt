@@ -160,7 +160,8 @@ fn give_answer<W: Threads + Wait, H: Turns + Drop, Y: Syncs, G: Gate + Drop, L: 
     ensures pass { Follows shared.now.post pass result.0 }
     ensures said { IsParsed prepared.read (parse_of server_waits bytes.now) → (messages : List Message)
         × IsAnswered H.journal H.hears H.gives session now bytes.now messages pass result.0
-        × Goes gone.follows result.1.follows (L.held link.old) (L.held link.new) (out_bytes messages) }
+        × Goes gone.follows result.1.follows (L.held link.old) (L.held link.new)
+        (out_bytes messages) }
     ensures come { L.left link.new ≡ L.left link.old }
     ensures later { L.faults link.old ≤ L.faults link.new }
 {

@@ -1,7 +1,7 @@
 //! The table of leases. `specs/Leases.antt` has the words of its contracts.
 
-ghost use Rattle.std.specs.Prelude.{◌≡◌, ◌+◌, ◌<◌, ◌≤◌, ◌^◌, [], OnOk, OnErr, IfOk, IsOk, IsSome, is_some, ◌⊎◌, length, vec_len, vec_capacity};
-ghost use Rattle.lease_table.specs.Leases.{grant, without_lease, marked, without_recalled, without_ended, without_session, is_blocked, others, lease_at};
+ghost use Rattle.std.specs.Prelude.{◌≡◌, ◌+◌, ◌<◌, ◌≤◌, ◌^◌, [], OnOk, OnErr, IfOk, IsOk, IsSome, is_some, ◌⊎◌, length};
+ghost use Rattle.lease_table.specs.Leases.{grant, marked, without_recalled, without_ended, without_session, is_blocked, others, lease_at};
 
 use crate::keyed::{Ends, Keyed, Recalls};
 use crate::map::ReservedMap;
@@ -96,20 +96,6 @@ impl Leases {
         ensures { result ≡ is_some (lease_at self.now.leases session file) }
     {
         changes::has(&self.leases, session, file)
-    }
-
-    /// The session has no lease on the file any more. It takes no memory.
-    pub fn drop_one(&mut self, session: u32, file: u64)
-        ensures leases { self.new.leases ≡ without_lease self.old.leases session file }
-        ensures room { self.old.room ≤ self.new.room }
-    {
-        changes::drop_one(
-            &mut self.leases,
-            &mut self.recalls,
-            &mut self.ends,
-            session,
-            file,
-        );
     }
 
     /// The session's lease on the file remembers the xid of the RECALL that asks for it, if it is

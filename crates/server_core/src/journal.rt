@@ -5,7 +5,7 @@ use tree_reading::entry::EntryKind;
 use xdr_codec::digest::Digest;
 
 /// A change that was made.
-#[derive(Clone, Copy, Drop)]
+#[derive(Clone, Copy)]
 pub struct Entry {
     /// The id of the file, or of the directory.
     pub file: u64,

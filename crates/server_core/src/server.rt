@@ -113,7 +113,7 @@ impl Server {
         ensures ok { OnOk result (self.new ≡ opens_with self.old dir name body) }
         ensures err { OnErr result (self.new ≡ self.old) }
     {
-        self.state.open(dir, name, body)
+        self.state.tree.open(dir, name, body)
     }
 
     /// The id that the next node of the tree gets.

@@ -1,18 +1,17 @@
 //! The server's fields, and one event on them. `specs/View.antt` says which state they are, and
 //! `specs/Step.antt` what an event does.
 
-ghost use Rattle.std.specs.Prelude.{◌≡◌, ◌<◌, ◌≤◌, ◌^◌, [], ◌∷◌, ◌++◌, OnOk, OnErr, IfOk, false, true};
+ghost use Rattle.std.specs.Prelude.{◌≡◌, ◌<◌, ◌≤◌, ◌^◌, [], OnErr, IfOk, false, true};
 ghost use Rattle.hash_calls.specs.declared.message.Lb.TheVariants as lb;
 ghost use Rattle.wire.specs.declared.message.Body.TheVariants as body;
 ghost use Rattle.wire.specs.declared.message.Message.TheVariants as message;
 ghost use Rattle.wire.specs.declared.message.RpcRefusal.TheVariants as refusal;
-ghost use Rattle.server_core.specs.Closing.{at};
-ghost use Rattle.server_core.specs.Steps.{sends, to, told_if};
+ghost use Rattle.server_core.specs.Steps.{sends};
 ghost use Rattle.chunk_calls.specs.Calling.{is_committmp};
 ghost use Rattle.file_tree.specs.Stores.{Keeps};
 ghost use Rattle.server_core.specs.Served.{IsServed};
 ghost use Rattle.server_core.specs.State.{entries_held};
-ghost use Rattle.server_core.specs.Step.{server_step_under, called, called_under, got_if_under, hears, stands, connect, has_room, opens_with, chunks_called, IsTimed, missed_call, TakesMemory, Lacks};
+ghost use Rattle.server_core.specs.Step.{server_step_under, called, called_under, got_if_under, hears, stands, connect, has_room, chunks_called, IsTimed, missed_call, TakesMemory, Lacks};
 ghost use Rattle.server_core.specs.Step.{MissesCall, Misses};
 ghost use Rattle.server_core.specs.View.{state_of, IsBounded};
 ghost use Rattle.server_core.specs.declared.event.Event.TheVariants as event;
@@ -29,14 +28,12 @@ use chunk_calls::calls::{self, Outcome};
 use chunk_index::index::Index;
 use file_tree::tree::Tree;
 use hash_calls::message::Lb;
-use lb_base::items::Name;
 use server_rules::sessions::Sessions;
 use server_rules::told::Told;
 use std::alloc::{AllocError, Global};
 use store::store::Store;
 use temp_files::temps::Temps;
 use tree_nodes::content::Content;
-use tree_nodes::node::Body as NodeBody;
 use wire::message::{Body, Message, RpcRefusal};
 
 /// A server's fields.
@@ -66,16 +63,6 @@ pub struct ServerState {
 }
 
 impl ServerState {
-    /// The tree opens with a node more, if it may have it. An `Err` changes nothing.
-    pub fn open(&mut self, dir: u64, name: Name, body: NodeBody) -> Result<(), AllocError>
-        requires { IsBounded self.old }
-        ensures ok { OnOk result (state_of self.new ≡ opens_with (state_of self.old) dir name body) }
-        ensures err { OnErr result (state_of self.new ≡ state_of self.old) }
-        ensures bounded { IsBounded self.new }
-    {
-        self.tree.open(dir, name, body)
-    }
-
     /// One event.
     pub fn step<S: Store>(&mut self, alloc: Global, store: &mut S, event: Event) -> ServerStep
         requires bounded { IsBounded self.old }

@@ -2,7 +2,7 @@
 //! `specs/Held.antt` states what an event makes of it.
 
 ghost use Rattle.std.specs.Prelude.{◌≡◌, ℕ, ◌<◌, ◌≤◌, ◌^◌, ◌↔◌, List, [], ◌∷◌, IsTrue, IfSome, IfNone, Some, None, Err, false};
-ghost use Rattle.server_held.specs.Boxes.{AllEmpty, Holds, Lacks};
+ghost use Rattle.server_held.specs.Boxes.{AllEmpty, Lacks};
 ghost use Rattle.server_core.specs.Closing.{has_waiting};
 ghost use Rattle.server_core.specs.State.{entries_held};
 ghost use Rattle.server_core.specs.Step.{IsTimed};
@@ -336,14 +336,6 @@ impl<S: Store + Drop> Turns for SharedServer<S> {
     ghost hears = { λ old session bytes now said new. HeardOrLeft S.records S.faults old session now (parse_of (waits_for old session) bytes) said new };
 
     ghost gives = { λ old session messages new. TakenOut old session messages new };
-
-    /// Whether a session stands.
-    fn stands(&self, session: u32) -> bool
-        ensures some { IsTrue result → (messages : List Message) × Holds self.now.boxes session messages }
-        ensures none { result ≡ false → Lacks self.now.boxes session }
-    {
-        self.boxes.has(session)
-    }
 
     /// The place of a session's box, if it stands; it is no other session's as long as it does.
     fn place(&self, session: u32) -> Option<usize>

@@ -33,9 +33,6 @@ pub trait Turns: Journaled {
     /// What is left where these messages to a session are taken out.
     ghost gives: { Self → ℕ → List Message → Self → Type 0 };
 
-    /// Whether a session stands.
-    fn stands(&self, session: u32) -> bool;
-
     /// The place of a session's box, if it stands; it is no other session's as long as it does.
     fn place(&self, session: u32) -> Option<usize>;
 
@@ -94,10 +91,6 @@ impl<H: Turns> Turns for Box<H> {
     ghost hears = { λ old session bytes now said new. H.hears old.value session bytes now said new.value };
 
     ghost gives = { λ old session messages new. H.gives old.value session messages new.value };
-
-    fn stands(&self, session: u32) -> bool {
-        (**self).stands(session)
-    }
 
     fn place(&self, session: u32) -> Option<usize> {
         (**self).place(session)

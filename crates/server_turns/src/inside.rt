@@ -36,9 +36,12 @@ impl Drop for Prepared {
 }
 
 impl Prepared {
-    /// Whether the record is an answer.
+    /// Whether the record is an answer: it was read as if nothing had been asked for.
     pub fn answers(&self) -> bool {
-        is_answer(&self.read)
+        match &self.read {
+            Ok(_) => false,
+            Err(error) => matches!(error, WireError::Fault(WireFault::UnknownXid { .. })),
+        }
     }
 
     fn into_parts(self) -> (Result<Message, WireError>, Option<Content>)
@@ -49,8 +52,11 @@ impl Prepared {
     }
 }
 
-/// The bit of a session's place; none, where it doesn't stand.
-fn bit_of<H: Turns>(held: &H, session: u32) -> u64 {
+/// The bit of a session's place, where there is one that stands.
+fn bit_of<H: Turns>(held: &H, session: Option<u32>) -> u64 {
+    let Some(session) = session else {
+        return 0;
+    };
     match held.place(session) {
         Some(place) => bit(place),
         None => 0,
@@ -74,9 +80,9 @@ pub(crate) fn is_owed<H: Turns>(held: &H, session: u32) -> bool {
     }
 }
 
-/// The bits of the places of those sessions to which something is to be said.
-fn said_in<H: Turns>(held: &H) -> u64 {
-    if held.is_still() {
+/// The bits of the places of those sessions to which something is to be said, where that is asked.
+fn said_in<H: Turns>(held: &H, looks: bool) -> u64 {
+    if !looks || held.is_still() {
         return 0;
     }
     let mut places = 0;
@@ -170,18 +176,7 @@ pub(crate) struct Happened {
 /// The bits of the places of those to whom an event said something: where no change could be made nothing was
 /// said to anybody.
 fn said_behind<H: Turns>(held: &H, went: Went) -> u64 {
-    match went {
-        Went::NotReady => 0,
-        _ => said_in(held),
-    }
-}
-
-/// The bit of an event's session, where it has one that stands.
-fn its_bit<H: Turns>(held: &H, session: Option<u32>) -> u64 {
-    match session {
-        Some(session) => bit_of(held, session),
-        None => 0,
-    }
+    said_in(held, !matches!(went, Went::NotReady))
 }
 
 /// One event.
@@ -191,7 +186,7 @@ pub(crate) fn event_in<H: Turns>(held: &mut H, alloc: Global, event: Event) -> H
     ensures grows { MayAdd (H.journal held.old) (H.journal held.new) }
 {
     let its = session_of(&event);
-    let own = its_bit(held, its);
+    let own = bit_of(held, its);
     let went = held.event(alloc, event);
     Happened {
         went,
@@ -216,7 +211,7 @@ pub(crate) fn taken_in<H: Turns>(held: &mut H, session: u32) -> Taken
     ensures same { H.journal held.new ≡ H.journal held.old }
 {
     let messages = held.take_out(session);
-    let stands = held.stands(session);
+    let stands = held.place(session).is_some();
     Taken::new(messages, stands)
 }
 
@@ -230,12 +225,6 @@ fn answer_in<H: Turns>(held: &mut H, session: u32, answers: bool) -> Option<Take
         return None;
     }
     Some(taken_in(held, session))
-}
-
-/// The bits of the places of those to whom something is said, where a record was answered in its turn; else
-/// the turn behind it finds them.
-fn said_with<H: Turns>(held: &H, answered: bool) -> u64 {
-    if answered { said_in(held) } else { 0 }
 }
 
 /// A record of a session is heard, and answered where nothing waits.
@@ -252,10 +241,11 @@ pub(crate) fn got_in<H: Turns>(
     ensures grows { MayAdd (H.journal held.old) (H.journal held.new) }
 {
     let answers = prepared.answers();
-    let own = bit_of(held, session);
+    let own = bit_of(held, Some(session));
     let heard = hear_in(held, alloc, session, bytes, prepared, now);
     let answer = answer_in(held, session, answers);
-    let said = said_with(held, answer.is_some());
+    // Where it wasn't answered the turn behind it finds them.
+    let said = said_in(held, answer.is_some());
     Got {
         heard,
         wakes: gone(heard, own) | said,
@@ -291,7 +281,7 @@ pub(crate) fn behind_in<H: Turns>(
     Behind {
         settled,
         taken,
-        said: said_in(held),
+        said: said_in(held, true),
         waits: held.waits(session),
     }
 }
@@ -325,13 +315,5 @@ pub(crate) fn commit_in(read: &Result<Message, WireError>) -> Option<&Commit> {
             _ => None,
         },
         Err(_) => None,
-    }
-}
-
-/// Whether a record is an answer: it was read as if nothing had been asked for.
-fn is_answer(read: &Result<Message, WireError>) -> bool {
-    match read {
-        Ok(_) => false,
-        Err(error) => matches!(error, WireError::Fault(WireFault::UnknownXid { .. })),
     }
 }

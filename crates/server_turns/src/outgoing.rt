@@ -89,8 +89,13 @@ impl Taken {
 
     /// How many of the messages are calls, which the client is to answer.
     pub fn calls(&self) -> u64 {
-        let calls = self.messages.iter().filter(|message| is_call(message));
-        calls.count() as u64
+        let mut calls: u64 = 0;
+        for message in self.messages.iter() {
+            if is_call(message) {
+                calls = calls.saturating_add(1);
+            }
+        }
+        calls
     }
 
     /// Makes the store sure of all that was made before what is to be said was taken; where nothing tells of it,

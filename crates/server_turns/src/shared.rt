@@ -525,7 +525,7 @@ impl<H: Turns + Drop, Y: Syncs, G: Gate + Drop, L: Link + Drop> Shared<H, Y, G, 
         ensures { Follows self.now.post pass result.0 }
     {
         let mut turn = self.post.enter(rt, pass);
-        let stands = turn.value().stands(session);
+        let stands = turn.value().place(session).is_some();
         (turn.leave(), stands)
     }
 

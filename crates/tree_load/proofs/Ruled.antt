@@ -1,5 +1,5 @@
 -- The rules of records, by what stands with them and one after the other.
-use Rattle.std.proofs.Common.{◌≡◌, ℕ, zero, suc, ◌+◌, ◌<◌, ◌≤◌, List, [], ◌∷◌, length, drop, Option, Some, None, Bool, true, false, ◌==◌, ◌&&◌, ◌||◌, refl, sym, ap, ◌∙◌, arith, if◌then◌else◌, nat_lt, nat_le, get_or}
+use Rattle.std.proofs.Common.{◌≡◌, ℕ, zero, suc, ◌+◌, ◌<◌, ◌≤◌, List, [], ◌∷◌, length, drop, Option, Some, None, Bool, true, false, ◌==◌, ◌&&◌, refl, sym, ap, ◌∙◌, arith, if◌then◌else◌, nat_le, get_or}
 use mathlib.Core.Bool.{true≢false}
 use Rattle.std.specs.BTreeMap.{get}
 use Rattle.std.specs.List.{slice_get, slice_index}
@@ -13,15 +13,15 @@ use Rattle.store.specs.declared.record.NodeKind.{NodeKind}
 use Rattle.store.specs.declared.record.NodeKind.TheVariants as node_kind
 use Rattle.store.specs.declared.record.NodeRecord.{NodeRecord}
 use Rattle.tree_reading.specs.Tree.{file_most, tree_most}
-use Rattle.tree_load.proofs.Climbs.{place_same, reach_at, length_ups}
+use Rattle.tree_load.proofs.Climbs.{length_ups}
 use Rattle.tree_load.proofs.Tables.{drop_next, drop_past}
 use Rattle.tree_load.specs.Above.{ups, walk}
 use Rattle.tree_load.specs.Known.{IsKnown}
 use Rattle.tree_load.specs.declared.firsts.Found.{Found}
 use Rattle.tree_load.specs.declared.rules.Around.{Around}
 use Rattle.tree_load.specs.declared.rules.Known.{Known}
-use Rattle.tree_load.specs.Found.{NameKey, by_name, node_found, is_directory_at, fits, is_file_by, is_node_by, is_content_by, around_of}
-use Rattle.tree_load.specs.Load.{first_node, first_named, first_content, place_of, is_at, is_directory_found, is_name_well, reaches, content_fits, is_its_files, is_node_well, is_content_well, is_well, size_of, first_fault}
+use Rattle.tree_load.specs.Found.{NameKey, by_name, node_found, is_directory_at, fits, is_file_by, around_of}
+use Rattle.tree_load.specs.Load.{first_node, first_named, first_content, place_of, is_at, is_directory_found, reaches, content_fits, is_its_files, is_well, size_of, first_fault}
 
 -- ---- by what stands with them
 
@@ -38,23 +38,6 @@ fits_by node_kind.File k None = refl
 fits_by node_kind.File k (Some p) = refl
 fits_by node_kind.Directory k None = refl
 fits_by node_kind.Directory k (Some p) = refl
-
-last_but_one : (a b c d e f g g' i : Bool) → (a ≡ true → c ≡ true → g ≡ g') → (a && b && c && d && e && f && g && i) ≡ (a && b && c && d && e && f && g' && i)
-last_but_one true true true d e f g g' i same = ap (λ x. true && true && true && d && e && f && x && i) (same refl refl)
-last_but_one true true false d e f g g' i same = refl
-last_but_one true false c d e f g g' i same = refl
-last_but_one false b c d e f g g' i same = refl
-
-pub node_same : (h : Head) (all : List Kept) (k : ℕ) (n : NodeRecord) → is_node_by h k n (around_of all k n) ≡ is_node_well h all k n
-node_same h all k n =
-    let own = ap (λ o. is_at k o) (place_same (first_node 0 all n.id)) in
-    let above = directory_same (first_node 0 all n.parent) in
-    let content = fits_by n.kind k (first_content 0 all n.id) in
-    (λ t. nat_le 2 n.id && nat_lt n.id h.next && own t && ((n.parent == 1) || above t) && is_name_well n.name && is_at k (first_named 0 all n.parent n.name) && (walk (length all) (ups all) k == length all) && content t)
-    ∙ last_but_one (nat_le 2 n.id) (nat_lt n.id h.next) (is_at k (place_of (first_node 0 all n.id))) ((n.parent == 1) || is_directory_found (first_node 0 all n.parent)) (is_name_well n.name) (is_at k (first_named 0 all n.parent n.name)) (walk (length all) (ups all) k == length all) (reaches (length all) all n.id) (content_fits n.kind k (first_content 0 all n.id)) (λ least first. sym (reach_at all (length all) k n.id first least))
-
-pub content_same : (h : Head) (all : List Kept) (k sum : ℕ) (c : ContentRecord) → is_content_by h k sum c (node_found (first_node 0 all c.id)) (place_of (first_content 0 all c.id)) ≡ is_content_well h all k sum c
-content_same h all k sum c = let own = file_same k (first_node 0 all c.id) in λ t. own t && is_at k (place_of (first_content 0 all c.id)) && nat_le 1 c.version && nat_le c.version h.changes && nat_le (length c.bytes) file_most && nat_le (sum + length c.bytes) tree_most
 
 -- ---- one after the other
 

@@ -1,21 +1,19 @@
 -- Where the first records of ids and names stand, as tables have it, and the rules of a record by what stands with it.
-use Rattle.std.specs.Prelude.{◌≡◌, ℕ, ◌+◌, ◌<◌, List, length, Option, Some, None, Bool, false, not, ◌&&◌, ◌||◌, ◌==◌, if◌then◌else◌, nat_lt, nat_le, is_some}
+use Rattle.std.specs.Prelude.{◌≡◌, ℕ, List, length, Option, Some, None, Bool, false, not, ◌&&◌, ◌==◌, if◌then◌else◌, nat_lt, is_some}
 use Rattle.std.specs.Borrow.{Bor}
 use Rattle.std.specs.BTreeMap.{BTreeMap, get}
 use Rattle.std.specs.Cmp.Lexicographic.{slice_cmp}
 use Rattle.std.specs.Ordering.{nat_cmp, ordering_then}
 use Rattle.std.specs.Str.{bytes_eq}
 use Rattle.std.specs.declared.cmp.Ordering.{Ordering}
-use Rattle.store.specs.declared.record.ContentRecord.{ContentRecord}
 use Rattle.store.specs.declared.record.Head.{Head}
 use Rattle.store.specs.declared.record.Kept.{Kept}
 use Rattle.store.specs.declared.record.Kept.TheVariants as kept
 use Rattle.store.specs.declared.record.NodeKind.{NodeKind}
 use Rattle.store.specs.declared.record.NodeKind.TheVariants as node_kind
 use Rattle.store.specs.declared.record.NodeRecord.{NodeRecord}
-use Rattle.tree_reading.specs.Tree.{file_most, tree_most}
 use Rattle.tree_load.specs.Above.{ups, walk}
-use Rattle.tree_load.specs.Load.{first_node, first_named, first_content, is_at, place_of, is_directory_kind, is_name_well}
+use Rattle.tree_load.specs.Load.{first_node, first_named, first_content, place_of, is_directory_kind}
 use Rattle.tree_load.specs.declared.firsts.Found.{Found}
 use Rattle.tree_load.specs.declared.rules.Around.{Around}
 
@@ -79,22 +77,9 @@ abbrev pub fits : NodeKind → ℕ → Option ℕ → Bool
 fits node_kind.File k content = is_some content
 fits node_kind.Directory k content = not (place_before k content)
 
-abbrev pub is_node_by : Head → ℕ → NodeRecord → Around → Bool
-is_node_by h k n a =
-    nat_le 2 n.id && nat_lt n.id h.next && is_at k (found_place a.own)
-    && ((n.parent == 1) || is_directory_at a.above)
-    && is_name_well n.name && is_at k a.named
-    && a.reaches && fits n.kind k a.content
-
 abbrev pub is_file_by : ℕ → Option Found → Bool
 is_file_by k None = false
 is_file_by k (Some f) = not (is_directory_kind f.kind && nat_lt f.place k)
-
-abbrev pub is_content_by : Head → ℕ → ℕ → ContentRecord → Option Found → Option ℕ → Bool
-is_content_by h k sum c own content =
-    is_file_by k own && is_at k content
-    && nat_le 1 c.version && nat_le c.version h.changes
-    && nat_le (length c.bytes) file_most && nat_le (sum + length c.bytes) tree_most
 
 -- what stands with a node among the records
 abbrev pub around_of : List Kept → ℕ → NodeRecord → Around

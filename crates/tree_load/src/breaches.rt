@@ -87,7 +87,7 @@ fn content_rule(
 
 /// The rule that a record breaks first, where the contents before it have so many bytes.
 #[tactic(auto, using(crate::proofs::Broken::node_same, crate::proofs::Broken::content_same))]
-fn rule_of<'a>(
+pub(crate) fn rule_of<'a>(
     head: Head,
     records: &[Kept],
     known: &Known<'a>,

@@ -6,7 +6,7 @@ ghost use Rattle.tree_load.specs.Counts.{counts_of, with_record};
 use store::record::{Kept, NodeKind};
 
 /// What records have.
-#[derive(Clone, Copy, Drop)]
+#[derive(Clone, Copy)]
 pub struct Counts {
     pub files: u128,
     pub directories: u128,

@@ -1,7 +1,7 @@
 //! The rules of records, by what is wrong where one isn't kept: `specs/Rules.antt`.
 
 /// What is wrong with a record.
-#[derive(Clone, Copy, Drop)]
+#[derive(Clone, Copy)]
 pub enum Rule {
     /// The first record is no head.
     Headless,
@@ -40,7 +40,7 @@ pub enum Rule {
 }
 
 /// A record that breaks a rule, by its number, and the first rule that it breaks.
-#[derive(Clone, Copy, Drop)]
+#[derive(Clone, Copy)]
 pub struct Broken {
     pub which: usize,
     pub rule: Rule,

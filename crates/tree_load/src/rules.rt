@@ -3,16 +3,17 @@
 
 ghost use Rattle.std.specs.Prelude.{◌≡◌, ◌<◌, ◌≤◌, length, drop, IfOk};
 ghost use Rattle.tree_reading.specs.Tree.{tree_most};
-ghost use Rattle.tree_load.specs.Found.{found_place, is_directory_at, place_before, fits, is_node_by, is_file_by, is_content_by, around_of};
+ghost use Rattle.tree_load.specs.Found.{found_place, is_directory_at, place_before, fits, is_file_by, around_of};
 ghost use Rattle.tree_load.specs.Known.{IsKnown};
 ghost use Rattle.tree_load.specs.Load.{is_head_well, is_name_well, is_directory_kind, is_at, is_well, size_of, first_fault};
 
 use crate::above;
+use crate::breaches::rule_of;
 use crate::firsts::{self, Firsts, Found};
-use limits::{CHANGES_MOST, FILE_MOST, TREE_MOST};
+use limits::CHANGES_MOST;
 use std::alloc::{AllocError, Global};
 use std::collections::BTreeMap;
-use store::record::{ContentRecord, Head, Kept, NodeKind, NodeRecord};
+use store::record::{Head, Kept, NodeKind, NodeRecord};
 use tree_reading::names;
 
 /// What stands with a node among the records.
@@ -166,20 +167,6 @@ pub fn fits(kind: NodeKind, place: usize, content: Option<usize>) -> bool
     }
 }
 
-/// Whether a node breaks no rule, by what stands with it.
-fn is_node_well(head: Head, place: usize, node: &NodeRecord, around: Around) -> bool
-    ensures { result ≡ is_node_by head place node.now around }
-{
-    2 <= node.id
-        && node.id < head.next
-        && is_at(place, found_place(around.own))
-        && (node.parent == 1 || is_directory_at(around.above))
-        && is_name_well(node.name.as_slice())
-        && is_at(place, around.named)
-        && around.reaches
-        && fits(node.kind, place, around.content)
-}
-
 /// Whether a content's node isn't a directory before it.
 pub fn is_file_at(place: usize, found: Option<Found>) -> bool
     ensures { result ≡ is_file_by place found }
@@ -188,27 +175,6 @@ pub fn is_file_at(place: usize, found: Option<Found>) -> bool
         Some(found) => !(is_directory_kind(found.kind) && found.place < place),
         None => false,
     }
-}
-
-/// Whether a content breaks no rule, by what stands with it.
-fn is_content_well(
-    head: Head,
-    place: usize,
-    sum: u64,
-    content: &ContentRecord,
-    own: Option<Found>,
-    first: Option<usize>,
-) -> bool
-    requires { sum ≤ tree_most }
-    ensures { result ≡ is_content_by head place sum content.now own first }
-{
-    let len = content.bytes.len() as u64;
-    is_file_at(place, own)
-        && is_at(place, first)
-        && 1 <= content.version
-        && content.version <= head.changes
-        && len <= FILE_MOST
-        && sum + len <= TREE_MOST
 }
 
 /// How many bytes a content has.
@@ -222,7 +188,6 @@ pub fn size_of(one: &Kept) -> u64
 }
 
 /// Whether a record breaks no rule, where the contents before it have so many bytes.
-#[tactic(auto, using(crate::proofs::Ruled::node_same, crate::proofs::Ruled::content_same))]
 fn is_well<'a>(
     head: Head,
     records: &[Kept],
@@ -236,17 +201,9 @@ fn is_well<'a>(
     requires sum { sum ≤ tree_most }
     ensures { result ≡ is_well head records.now place sum one.now }
 {
-    match one {
-        Kept::Head(_) => false,
-        Kept::Node(node) => {
-            let around = stands_with(records, known, place, node);
-            is_node_well(head, place, node, around)
-        }
-        Kept::Content(content) => {
-            let own = known.nodes.get(&content.id).copied();
-            let first = known.contents.get(&content.id).copied();
-            is_content_well(head, place, sum, content, own, first)
-        }
+    match rule_of(head, records, known, place, sum, one) {
+        None => true,
+        Some(_) => false,
     }
 }
 

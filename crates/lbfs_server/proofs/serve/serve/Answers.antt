@@ -1,8 +1,9 @@
 use denote.Exit.{no}
 use denote.Param.Send.{param_send, arg_send}
-use Rattle.std.proofs.Common.{subst}
+use Rattle.std.proofs.Common.{subst, ap}
 use Rattle.std.proofs.Crossing.{Box-send}
 use Rattle.lb_base.specs.Causes.{Rose}
+use Rattle.server_held.specs.Kept.{journal_of}
 use Rattle.turn_post.proofs.lemmas.Fronts.{prefix_self}
 use Rattle.lbfs_server.proofs.lemmas.Sending.{held_sent}
 use Rattle.lbfs_server.proofs.Serving.{is_front_in, told_anyhow, told_of, sessions_told, front_told}
@@ -19,7 +20,7 @@ returns-clause-sessions g c = sessions_told _ c.closed-told.result c.serve_post-
 
 pub returns-clause-front : goal.returns-clause-front
 returns-clause-front g c = front_told c.closed-told.result c.args.sessions c.changes_in-front.result _ _ c.closed-told.ensures.told
-    (is_front_in (g.S.Store.records c.args.store) (g.S.Store.records c.store_of-store.result) (g.S.Store.records c.closed-told.new.store) c.args.term _ _ c.new.result.kept c.serve_post-ended.result.3.value.kept _ _ c.serve_post-ended.result.2 c.changes_in-front.result c.in-Ok.ensures.tree c.new.ensures.kept c.in-Ok-posted.ensures.1 (prefix_self _) c.serve_post-ended.ensures.seen c.serve_post-ended.ensures.front c.changes_in-front.ensures c.store_of-store.ensures.accounted c.store_of-store.ensures.kept c.closed-told.ensures.kept)
+    (is_front_in (g.S.Store.records c.args.store) (g.S.Store.records c.store_of-store.result) (g.S.Store.records c.closed-told.new.store) c.args.term _ _ c.new.result.kept c.serve_post-ended.result.3.value.kept _ _ c.serve_post-ended.result.2 c.changes_in-front.result c.in-Ok.ensures.tree c.new.ensures.kept (ap journal_of c.in-Ok-boxed.ensures) c.serve_post-ended.ensures.seen (prefix_self _) c.serve_post-ended.ensures.front c.changes_in-front.ensures c.store_of-store.ensures.accounted c.store_of-store.ensures.kept c.closed-told.ensures.kept)
 
 pub returns-clause-network : goal.returns-clause-network
 returns-clause-network g c = λ is. c.serve_post-ended.ensures.cause (c.closed-told.ensures.network is)
