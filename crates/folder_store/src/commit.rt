@@ -88,7 +88,7 @@ impl<R: Drop> Drop for GroupFlush<R> {
     }
 }
 
-impl<R: Eprint> GroupFlush<R> {
+impl<R> GroupFlush<R> {
     /// Nothing was given. Without a log nothing is flushed.
     pub fn new(rt: R, path: String, log: Option<File>) -> GroupFlush<R> {
         GroupFlush {
@@ -121,7 +121,9 @@ impl<R: Eprint> GroupFlush<R> {
     pub fn is_in_doubt(&self) -> bool {
         self.doubt.load(Ordering::SeqCst)
     }
+}
 
+impl<R: Eprint> GroupFlush<R> {
     /// A flush failed, for this reason.
     fn fail(&self, why: &Option<Error>) {
         if let Some(why) = why {
@@ -188,7 +190,7 @@ impl<R: Drop> Drop for FolderSyncs<R> {
     }
 }
 
-impl<R: Eprint + Drop> FolderSyncs<R> {
+impl<R: Drop> FolderSyncs<R> {
     /// The first owner. The one error is running out of memory.
     pub fn new(
         rt: R,

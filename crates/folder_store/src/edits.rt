@@ -81,8 +81,9 @@ fn apply_edits<'a, D: Folder>(
     ensures { D.told → (records : Records) (past : List Records)
         → HoldsRecords records past store.old.pending.items store.old.doubt
         (D.state store.old.folder) → store.old.doubt ≡ false
-        → AppliedThese (edited head.entry ∷
-        (one_or_two first.entry ++ two_or_none second.entry)) records past store.new.pending.items store.new.doubt (D.state store.old.folder) (D.state store.new.folder) result }
+        → AppliedThese (edited head.entry ∷ (one_or_two first.entry ++ two_or_none second.entry))
+        records past store.new.pending.items store.new.doubt
+        (D.state store.old.folder) (D.state store.new.folder) result }
 {
     let (one, more) = first;
     match (more, second) {
@@ -108,8 +109,9 @@ pub(crate) fn apply_change<D: Folder>(
     ensures { D.told → (records : Records) (past : List Records)
         → HoldsRecords records past store.old.pending.items store.old.doubt
         (D.state store.old.folder) → store.old.doubt ≡ false
-        → AppliedThese
-        (edits_in head first.now second.now) records past store.new.pending.items store.new.doubt (D.state store.old.folder) (D.state store.new.folder) result }
+        → AppliedThese (edits_in head first.now second.now)
+        records past store.new.pending.items store.new.doubt
+        (D.state store.old.folder) (D.state store.new.folder) result }
 {
     let bytes = head_bytes(head);
     let head = Edit {

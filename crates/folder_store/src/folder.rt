@@ -145,11 +145,11 @@ fn open_folder<R: Files<File = File> + AllocGlobal + Eprint + Clone + Drop>(
     place: &str,
     unsynced: bool,
 ) -> Result<(LoadedFolder<R>, Vec<Which>), StoreError> {
+    let front = format!(in alloc; "{place}/")?;
     let folder = DiskFolder::open(rt.clone()?, alloc, place, unsynced)?;
     let mut store = LogStore::new(folder, alloc);
     let there = store.load()?;
     let syncs = syncs_of(rt, alloc, place, unsynced)?;
-    let front = format!(in alloc; "{place}/")?;
     let held = LoadedFolder {
         front,
         store,
@@ -166,7 +166,7 @@ fn load_folder<R: Files<File = File> + AllocGlobal + Eprint + Clone + Drop>(
     unsynced: bool,
 ) -> Result<(LoadedFolder<R>, Vec<Kept>), StoreError> {
     let (mut held, there) = open_folder(rt, alloc, place, unsynced)?;
-    let mut records = Vec::with_capacity(alloc, there.len())?;
+    let mut records = Vec::new(alloc);
     held.read(rt, there.as_slice(), Vec::new(alloc), &mut records)?;
     Ok((held, records))
 }
@@ -180,10 +180,9 @@ fn load_by_threads<H: Threads + Sync, R: Files<File = File> + AllocGlobal + Epri
     unsynced: bool,
 ) -> Result<(LoadedFolder<R>, Vec<Kept>), StoreError> {
     let (mut held, there) = open_folder(rt, alloc, place, unsynced)?;
-    let mut records = Vec::with_capacity(alloc, there.len())?;
+    let mut records = Vec::new(alloc);
     for these in there.as_slice().chunks(OPEN_MOST) {
-        let long = read_long(handle, rt, alloc, held.front.as_str(), these)?;
-        held.read(rt, these, long, &mut records)?;
+        held.read_by_threads(handle, rt, these, &mut records)?;
     }
     Ok((held, records))
 }
@@ -226,6 +225,18 @@ fn are_large<R: Files<File = File>>(
 }
 
 impl<R: Files<File = File> + AllocGlobal + Eprint + Clone + Drop> LoadedFolder<R> {
+    /// Adds these of its records, of which threads read the long contents.
+    fn read_by_threads<H: Threads + Sync>(
+        &mut self,
+        handle: &H,
+        rt: &R,
+        these: &[Which],
+        records: &mut Vec<Kept>,
+    ) -> Result<(), StoreError> {
+        let long = read_long(handle, rt, rt.alloc(), self.front.as_str(), these)?;
+        self.read(rt, these, long, records)
+    }
+
     /// Adds these of its records. The bytes of some were read already.
     fn read(
         &mut self,
@@ -343,6 +354,18 @@ impl<R: Files<File = File> + AllocGlobal + Eprint + Clone + Drop> FolderStore<R>
         self.ahead = Some((at, came));
     }
 
+    /// Loads a folder now.
+    fn load_now(&mut self, alloc: Global, place: &str) -> Result<Vec<Kept>, StoreError>
+        ensures { (self.new.spare ≡ self.old.spare) × (self.new.faults ≡ self.old.faults) }
+    {
+        // The folder that was loaded before is dropped, so that it may be this one.
+        self.held = None;
+        let came = load_folder(&self.rt, alloc, place, self.unsynced);
+        self.hold(came)
+    }
+}
+
+impl<R: Drop> FolderStore<R> {
     /// What was loaded ahead, if it is of this place. It is forgotten.
     fn take_ahead(&mut self, place: &str) -> Option<Result<Vec<Kept>, StoreError>>
         ensures { (self.new.spare ≡ self.old.spare) × (self.new.faults ≡ self.old.faults) }
@@ -353,16 +376,6 @@ impl<R: Files<File = File> + AllocGlobal + Eprint + Clone + Drop> FolderStore<R>
         } else {
             None
         }
-    }
-
-    /// Loads a folder now.
-    fn load_now(&mut self, alloc: Global, place: &str) -> Result<Vec<Kept>, StoreError>
-        ensures { (self.new.spare ≡ self.old.spare) × (self.new.faults ≡ self.old.faults) }
-    {
-        // The folder that was loaded before is dropped, so that it may be this one.
-        self.held = None;
-        let came = load_folder(&self.rt, alloc, place, self.unsynced);
-        self.hold(came)
     }
 
     /// Holds a folder that was loaded, and gives its records.

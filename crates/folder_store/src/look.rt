@@ -92,18 +92,21 @@ impl Drop for Paths {
     }
 }
 
+/// The path of a content's second name.
+fn made_path(alloc: Global, place: &str, id: u64) -> Result<String, AllocError> {
+    let mut path = format!(in alloc; "{place}/")?;
+    put_made_name(&mut path, id)?;
+    Ok(path)
+}
+
 impl Paths {
     /// The paths of a record's files.
     fn new(alloc: Global, place: &str, name: &str, which: Which) -> Result<Paths, AllocError> {
-        let own = format!(in alloc; "{place}/{name}")?;
         let made = match which {
-            Which::Content(id) => {
-                let mut made = format!(in alloc; "{place}/")?;
-                put_made_name(&mut made, id)?;
-                Some(made)
-            }
+            Which::Content(id) => Some(made_path(alloc, place, id)?),
             Which::Head | Which::Node(_) => None,
         };
+        let own = format!(in alloc; "{place}/{name}")?;
         Ok(Paths { own, made })
     }
 }
@@ -205,6 +208,29 @@ fn add_all<R: Files<File = File>>(
     }
 }
 
+/// Adds what was read of a file beside the records' to its lines, or a finding where that can't be read.
+fn add_read(
+    alloc: Global,
+    name: &str,
+    read: io::Result<Vec<Line>>,
+    lines: &mut Vec<Line>,
+    findings: &mut Vec<String>,
+) -> Result<(), AllocError> {
+    match read {
+        Ok(more) => {
+            for line in more {
+                lines.push(line)?;
+            }
+            Ok(())
+        }
+        Err(why) if why.kind() == ErrorKind::OutOfMemory => Err(AllocError),
+        Err(why) => {
+            findings.push(format!(in alloc; "{name}: {why}")?)?;
+            Ok(())
+        }
+    }
+}
+
 /// The lines of what is told beside the records' files; one more finding for each part that can't be read.
 fn lines_of<R: Files<File = File>>(
     rt: &R,
@@ -212,37 +238,26 @@ fn lines_of<R: Files<File = File>>(
     place: &str,
     findings: &mut Vec<String>,
 ) -> Result<Vec<Line>, AllocError> {
+    let change = format!(in alloc; "{place}/change")?;
+    let log = format!(in alloc; "{place}/log")?;
     let mut lines = Vec::new(alloc);
-    for (name, is_log) in [("change", false), ("log", true)] {
-        let path = format!(in alloc; "{place}/{name}")?;
-        let read = if is_log {
-            read_log(rt, alloc, path.as_str())
-        } else {
-            told_by(rt, alloc, path.as_str())
-        };
-        match read {
-            Ok(more) => {
-                for line in more {
-                    lines.push(line)?;
-                }
-            }
-            Err(why) if why.kind() == ErrorKind::OutOfMemory => return Err(AllocError),
-            Err(why) => {
-                findings.push(format!(in alloc; "{name}: {why}")?)?;
-            }
-        }
-    }
+    let read = told_by(rt, alloc, change.as_str());
+    add_read(alloc, "change", read, &mut lines, findings)?;
+    let read = read_log(rt, alloc, log.as_str());
+    add_read(alloc, "log", read, &mut lines, findings)?;
     Ok(lines)
 }
 
 /// The records of which there is a file, or something is told, each once and in their order.
-fn records_named(
+fn records_named<R: Files + AllocGlobal + Clone + Drop>(
+    rt: &R,
     alloc: Global,
-    there: &[(Which, bool)],
+    place: &str,
     lines: &[Line],
-) -> Result<Vec<Which>, AllocError> {
+) -> io::Result<Vec<Which>> {
+    let there = files_there(rt, alloc, place)?;
     let mut records = Vec::new(alloc);
-    for (which, is_new) in there {
+    for (which, is_new) in &there {
         if !*is_new {
             records.push(*which)?;
         }
@@ -290,13 +305,13 @@ fn open_for_look<R: Files<File = File> + AllocGlobal + Clone + Drop>(
     place: &str,
     findings: &mut Vec<String>,
 ) -> io::Result<Looked> {
+    let at = String::from_str(alloc, place)?;
     let lock = lock(rt, place)?;
     add_stranger(rt, alloc, place, findings)?;
-    let there = files_there(rt, alloc, place)?;
     let lines = lines_of(rt, alloc, place, findings)?;
-    let records = records_named(alloc, there.as_slice(), lines.as_slice())?;
+    let records = records_named(rt, alloc, place, lines.as_slice())?;
     Ok(Looked {
-        place: String::from_str(alloc, place)?,
+        place: at,
         lock,
         lines,
         records,

@@ -79,13 +79,30 @@ pub put_behind : (out x y : List ℕ) (w : Which) (t : What) (p : Parts) (n : �
 put_behind out x y w t p n is count a b =
     parts_behind out x y (line_front 43 w n) (bytes_of p) a b ∙ ap (λ (k : ℕ). out ++ (line_front 43 w k ++ bytes_of p)) count ∙ ap (λ (u : What). out ++ line_bytes w u) (sym is)
 
+is_less : (n m : ℕ) → n < m → nat_lt n m ≡ true
+is_less n m lt = grind (arith, nat_tests, lt)
+
 -- a line from its parts
-pub line_made : (b : List ℕ) (w : Which) (t : Task) (k j : ℕ) → 18 ≤ length b → Some w ≡ which_in (get_or b 1 0) k → k ≡ word_in (drop 2 b) → Some t ≡ task_in (get_or b 0 0) j (drop 18 b) → j ≡ word_in (drop 10 b)
-    → Some (record { which = w; task = t }) ≡ line_in b
-line_made b w t k j le is at says count =
+line_whole : (b : List ℕ) (w : Option Which) (t : Option Task) (k j : ℕ) → 18 ≤ length b → w ≡ which_in (get_or b 1 0) k → k ≡ word_in (drop 2 b) → t ≡ task_in (get_or b 0 0) j (drop 18 b) → j ≡ word_in (drop 10 b) → line_by w t ≡ line_in b
+line_whole b w t k j le is at says count =
     let whole : Option Line = line_by (which_in (get_or b 1 0) (word_in (drop 2 b))) (task_in (get_or b 0 0) (word_in (drop 10 b)) (drop 18 b)) in
     ap₂ line_by (is ∙ ap (which_in (get_or b 1 0)) at) (says ∙ ap (λ (n : ℕ). task_in (get_or b 0 0) n (drop 18 b)) count)
     ∙ sym (ap (λ (c : Bool). if c then None else whole) (not_less (length b) 18 le))
+
+pub line_made : (b : List ℕ) (w : Which) (t : Task) (k j : ℕ) → 18 ≤ length b → Some w ≡ which_in (get_or b 1 0) k → k ≡ word_in (drop 2 b) → Some t ≡ task_in (get_or b 0 0) j (drop 18 b) → j ≡ word_in (drop 10 b)
+    → Some (record { which = w; task = t }) ≡ line_in b
+line_made b w t k j le is at says count = line_whole b (Some w) (Some t) k j le is at says count
+
+pub line_of_no_task : (b : List ℕ) (w : Which) (k j : ℕ) → 18 ≤ length b → Some w ≡ which_in (get_or b 1 0) k → k ≡ word_in (drop 2 b) → None ≡ task_in (get_or b 0 0) j (drop 18 b) → j ≡ word_in (drop 10 b) → None ≡ line_in b
+line_of_no_task b w k j le is at says count = line_whole b (Some w) None k j le is at says count
+
+pub line_of_no_record : (b : List ℕ) (k : ℕ) → 18 ≤ length b → None ≡ which_in (get_or b 1 0) k → k ≡ word_in (drop 2 b) → None ≡ line_in b
+line_of_no_record b k le is at = line_whole b None (task_in (get_or b 0 0) (word_in (drop 10 b)) (drop 18 b)) k (word_in (drop 10 b)) le is at refl refl
+
+pub line_too_short : (b : List ℕ) → length b < 18 → None ≡ line_in b
+line_too_short b lt =
+    let whole : Option Line = line_by (which_in (get_or b 1 0) (word_in (drop 2 b))) (task_in (get_or b 0 0) (word_in (drop 10 b)) (drop 18 b)) in
+    sym (ap (λ (c : Bool). if c then None else whole) (is_less (length b) 18 lt))
 
 long_line : (w : Which) (t : What) (rest : List ℕ) → 1 ≤ length (line_bytes w t ++ rest)
 long_line w (what.Put p) rest = omega arith

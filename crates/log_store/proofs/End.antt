@@ -1,5 +1,5 @@
 -- A folder is brought to rest.
-use Rattle.std.proofs.Common.{◌≡◌, inl, inr, ⊎_elim, ℕ, ◌⊎◌, ◌++◌, Bool, true, false, if◌then◌else◌, List, [], ◌∷◌, take, Option, Some, None, Vec, Contains, Result, Ok, Err, OnOk, IfOk, refl, sym, ◌∙◌, ap, ap₂, subst, true≢false}
+use Rattle.std.proofs.Common.{◌≡◌, inl, inr, ⊎_elim, ℕ, ◌<◌, ◌⊎◌, ◌++◌, Bool, true, false, if◌then◌else◌, List, [], ◌∷◌, length, take, Option, Some, None, Vec, Contains, Result, Ok, Err, OnOk, IfOk, refl, sym, ◌∙◌, ap, ap₂, subst, true≢false, arith}
 use Rattle.std.specs.declared.alloc.Global.{Global}
 use Rattle.store.specs.declared.store.StoreError.{StoreError}
 use Rattle.store.specs.declared.store.StoreError.TheVariants as errors
@@ -187,6 +187,12 @@ loaded records past d0 d1 d2 d3 q v s did =
       quiet = quiet;
       sound = quiet_sound records [] [] d3 quiet;
     }
+
+pub still_there : (xs ys : List Which) (n : Which) → ys ≡ xs → Contains xs n → Contains ys n
+still_there xs ys n is has = subst (λ (zs : List Which). Contains zs n) (sym is) has
+
+pub none_there : (xs : List FileName) (x : FileName) → length xs < 1 → Contains xs x → ⊥
+none_there xs x lt has = omega (arith, lt, has.1)
 
 pub contains_by : (xs ys : List FileName) (x : FileName) → xs ≡ ys → Contains xs x → Contains ys x
 contains_by xs ys x is has = subst (λ (zs : List FileName). Contains zs x) is has

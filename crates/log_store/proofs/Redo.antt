@@ -1,9 +1,9 @@
 -- The log is carried out.
-use Rattle.std.proofs.Common.{◌≡◌, inl, inr, ⊎_elim, ℕ, ◌≤◌, ◌⊎◌, ◌++◌, Bool, true, false, if◌then◌else◌, List, [], ◌∷◌, length, get_or, take, drop, take_all, ◌-◌, Option, Some, None, Result, Ok, Err, OnOk, refl, sym, ◌∙◌, ap, ap₂, subst, true≢false, arith}
+use Rattle.std.proofs.Common.{◌≡◌, inl, inr, ⊎_elim, ℕ, ◌<◌, ◌≤◌, ◌⊎◌, ◌++◌, Bool, true, false, if◌then◌else◌, List, [], ◌∷◌, length, get_or, take, drop, take_all, ◌-◌, Option, Some, None, Result, Ok, Err, OnOk, refl, sym, ◌∙◌, ap, ap₂, subst, true≢false, arith}
 use Rattle.log_store.specs.Names.{same, same_which, is_among}
 use Rattle.log_store.specs.Lines.{Log, Records, over, latest, task_of, all_lines, names}
 use Rattle.log_store.specs.Disk.{Files, File, Missing, Loose, Firm, Disk, Leaves, Passes, Agrees, Landed, Only, Same, taken, Moved, MovedOnDisk, Wrote, Flushed, Renamed, Removed, FlushedFolder, FlushedAll, firmed, FlushedLog, Cut, Stayed, Looked}
-use Rattle.log_store.specs.Sound.{kept, resolved, shown, shown_file, moves, Loads, OneOf, IsSound, IsFirm, IsAtRest, IsQuiet, IsRest, AreThere, AreLeft, WroteFirm, LineDone, Passed, Redone, Finished, Emptied, Carried, UnlessInDoubt, unfinished_by}
+use Rattle.log_store.specs.Sound.{kept, resolved, shown, shown_file, moves, Loads, OneOf, IsSound, IsFirm, IsAtRest, IsQuiet, IsRest, AreThere, AreWritten, AreLeft, WroteFirm, LineDone, Passed, Redone, Finished, Emptied, Carried, UnlessInDoubt, unfinished_by}
 use Rattle.log_store.specs.Store.{Relieved, HoldsRecords}
 use Rattle.store.specs.declared.store.StoreError.{StoreError}
 use Rattle.store.specs.declared.store.StoreError.TheVariants as errors
@@ -120,6 +120,27 @@ module _ (records : Records) (n : Which) (bytes : List ℕ) (old mid : Disk) (f 
         entries = removed.entries ∙ wrote.entries;
         done = on_ok r (λ u. ap firmed (removed.others (Record n) refl ∙ wrote.done) ∙ is_put records n bytes old f is) (always r);
       }
+
+-- a file is written, and flushed
+pub not_written : (old new : Disk) (name : FileName) (bytes : List ℕ) (r q : Result (Unit {0}) Fault) → OnOk q (new.seen name ≡ Firm bytes) → Wrote old new name bytes r → WroteFirm old new name bytes q
+not_written old new name bytes r q none did = record {
+  leaves = one_step (λ c l. (d : Files) × old.may_leave d l × Only name d c) did.time did.crash;
+  others = did.others;
+  entries = did.entries;
+  crash = did.crash;
+  done = none;
+}
+
+pub written_firm : (d0 d1 d2 : Disk) (name : FileName) (bytes : List ℕ) (r : Result (Unit {0}) Fault) → Wrote d0 d1 name bytes (Ok tt) → Flushed d1 d2 name r → WroteFirm d0 d2 name bytes r
+written_firm d0 d1 d2 name bytes r wrote did =
+    let crash : ((c : Files) (l : Log) → d2.may_leave c l → (d : Files) × d0.may_leave d l × Only name d c) = λ c l left. wrote.crash c l (did.crash c l left) in
+    record {
+      leaves = and_then (λ c l. (d : Files) × d0.may_leave d l × Only name d c) (one_step (λ c l. (d : Files) × d0.may_leave d l × Only name d c) wrote.time wrote.crash) (one_step (λ c l. (d : Files) × d0.may_leave d l × Only name d c) did.time crash);
+      others = λ x ne. did.others x ne ∙ wrote.others x ne;
+      entries = did.entries ∙ wrote.entries;
+      crash = crash;
+      done = on_ok r (λ firm. firm bytes wrote.done) did.done;
+    }
 
 module _ (records : Records) (n : Which) (old mid : Disk) (f : IsFirm records old) (is : task_of old.entries n ≡ Some task.Goes) where
   removed_firm : (r : Result (Unit {0}) Fault) → Removed old mid (Record n) r → IsFirm records mid
@@ -499,3 +520,10 @@ relieved_by_looks records past pending doubt old new s did = record {
 
 pub relieved_on : (records : Records) (past : List Records) (first second : List Which) (a b : Bool) (old mid new : Disk) → Relieved records past first a old mid → Relieved records past second b mid new → Relieved records past second b old new
 relieved_on records past first second a b old mid new x y = record { leaves = and_then (OneOf (records ∷ past)) x.leaves y.leaves; left = y.left; held = y.held }
+
+pub redo_none : (records : Records) (lines : List Line) (d : Disk) → length lines < 1 → IsFirm records d → IsRest lines records d → Redone records d d (Ok tt)
+redo_none records [] d lt f so = redo_ends records d f so
+redo_none records (x ∷ rest) d lt f so = absurd (omega (arith, lt))
+
+pub redo_stops : (records : Records) (rest : List Line) (old new : Disk) (e : Fault) (q : Result (Unit {0}) Fault) → OnOk q (AreWritten records new) → Passed rest records old new (Err e) → Redone records old new q
+redo_stops records rest old new e q none did = record { leaves = did.leaves; firm = did.firm; entries = did.entries; done = none }

@@ -1,5 +1,6 @@
 -- Steps of a folder that follow each other.
 use Rattle.std.proofs.Common.{refl, ◌∙◌, ◌≡◌, inl, inr, ⊎_elim, ℕ, ◌≤◌, ◌⊎◌, arith, Result, Ok, Err, OnErr, OnOk, IfOk}
+use Rattle.lb_base.specs.Causes.{Rose}
 use Rattle.log_store.specs.Lines.{Log}
 use Rattle.log_store.specs.Disk.{Files, Disk, Leaves, Passes, Same, Stayed, Looked}
 use Rattle.log_store.specs.declared.folder.Fault.{Fault}
@@ -48,3 +49,12 @@ looked_none {d} = record { leaves = nothing d.may_leave; seen = λ x. refl; entr
 pub if_ok : {A : Type 0} {E : Type 0} {X Y : A → Type 0} (r : Result A E) → ((a : A) → X a → Y a) → IfOk r X → IfOk r Y
 if_ok (Ok a) to x = to a x
 if_ok (Err e) to x = tt
+
+pub if_err : {A : Type 0} {E : Type 0} {X : Type 0} (r : Result A E) → X → OnErr r X
+if_err (Ok a) x = tt
+if_err (Err e) x = x
+
+-- a fault of the second of two calls
+pub rose_behind : {A : Type 0} {E : Type 0} (r : Result A E) (a b c : ℕ) → a ≤ b → OnErr r (Rose b c) → OnErr r (Rose a c)
+rose_behind (Ok u) a b c le rose = tt
+rose_behind (Err e) a b c le rose = omega (arith, le, rose)

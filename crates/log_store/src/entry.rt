@@ -131,7 +131,6 @@ fn task_in(alloc: Global, sign: u8, count: u64, behind: &[u8]) -> Result<Option<
 }
 
 /// The line in front of these bytes. The one error is running out of memory.
-#[tactic(auto, using(crate::proofs::Coding::line_made))]
 fn line_in(alloc: Global, bytes: &[u8]) -> Result<Option<Line>, AllocError>
     ensures { IfOk result (λ line. line ≡ line_in bytes.now) }
 {

@@ -1,19 +1,13 @@
 -- What `clap` is told of a table of commands: `lbfs` and `front` are what it comes to for the two of the program.
-use Rattle.std.specs.Prelude.{List, [], ◌∷◌, map}
+use Rattle.std.specs.Prelude.{List, [], ◌∷◌, map, Some, None, if◌then◌else◌}
 use Rattle.std.specs.Borrow.{Bor}
-use Rattle.clap.specs.Words.{App, Rule, Text, new_app, with_rule, with_subcommand}
+use Rattle.clap.specs.Words.{App, Rule, Text, new_app, new_rule, with_rule, with_subcommand}
 use Rattle.program_words.specs.declared.line.Kind.{Kind}
-use Rattle.program_words.specs.declared.line.Kind.TheVariants as kind
 use Rattle.program_words.specs.declared.line.Line.{Line}
-use Rattle.program_words.specs.Line.{optional, required, flag, placed, named}
-use Rattle.program_words.specs.FrontLine.{rest}
+use Rattle.program_words.specs.Line.{named}
 
 abbrev pub rule : Kind → Text → Rule
-rule kind.Optional = optional
-rule kind.Required = required
-rule kind.Flag = flag
-rule kind.Placed = placed
-rule kind.Rest = rest
+rule k name = record (new_rule name) { long = if k.is_option then Some name else None; required = k.required; action = Some k.action; trailing_var_arg = k.rest }
 
 abbrev pub rules_in : List (Bor Text × Kind) → List Rule
 rules_in args = map (λ a. rule a.1 a.0.now) args

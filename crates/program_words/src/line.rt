@@ -9,20 +9,56 @@ ghost use Rattle.program_words.specs.Table.{command, program, rule};
 use clap::{Arg, ArgAction, ArgMatches, Command, Error};
 use std::alloc::{AllocError, Global};
 
-/// What an argument is.
+/// What `clap` is told of an argument beside its name.
 #[derive(Clone, Copy)]
-enum Kind {
-    /// An option with one value, which may be left out.
-    Optional,
-    /// An option with one value, which is wanted.
-    Required,
-    /// A flag.
-    Flag,
-    /// A word in its place, which is wanted.
-    Placed,
-    /// All words that are left, whatever they begin with.
-    Rest,
+struct Kind {
+    /// Whether it is an option, and no word in its place.
+    is_option: bool,
+    required: bool,
+    action: ArgAction,
+    /// Whether it takes all words that are left, whatever they begin with.
+    rest: bool,
 }
+
+/// An option with one value, which may be left out.
+const OPTIONAL: Kind = Kind {
+    is_option: true,
+    required: false,
+    action: ArgAction::Set,
+    rest: false,
+};
+
+/// An option with one value, which is wanted.
+const REQUIRED: Kind = Kind {
+    is_option: true,
+    required: true,
+    action: ArgAction::Set,
+    rest: false,
+};
+
+/// A flag.
+const FLAG: Kind = Kind {
+    is_option: true,
+    required: false,
+    action: ArgAction::SetTrue,
+    rest: false,
+};
+
+/// A word in its place, which is wanted.
+const PLACED: Kind = Kind {
+    is_option: false,
+    required: true,
+    action: ArgAction::Set,
+    rest: false,
+};
+
+/// All words that are left.
+const REST: Kind = Kind {
+    is_option: false,
+    required: false,
+    action: ArgAction::Append,
+    rest: true,
+};
 
 /// A command of the program: its name, and its arguments.
 #[derive(Clone, Copy)]
@@ -35,15 +71,11 @@ pub(crate) struct Line {
 static LBFS: [Line; 7] = [
     Line {
         name: "replay",
-        args: &[
-            ("summary", Kind::Flag),
-            ("seed", Kind::Optional),
-            ("blocks", Kind::Optional),
-        ],
+        args: &[("summary", FLAG), ("seed", OPTIONAL), ("blocks", OPTIONAL)],
     },
     Line {
         name: "gen",
-        args: &[("seed", Kind::Placed), ("blocks", Kind::Placed)],
+        args: &[("seed", PLACED), ("blocks", PLACED)],
     },
     Line {
         name: "cut",
@@ -56,25 +88,25 @@ static LBFS: [Line; 7] = [
     Line {
         name: "serve",
         args: &[
-            ("port", Kind::Required),
-            ("term", Kind::Required),
-            ("sessions", Kind::Required),
-            ("store", Kind::Required),
-            ("unsynced", Kind::Flag),
+            ("port", REQUIRED),
+            ("term", REQUIRED),
+            ("sessions", REQUIRED),
+            ("store", REQUIRED),
+            ("unsynced", FLAG),
         ],
     },
     Line {
         name: "mount",
         args: &[
-            ("port", Kind::Required),
-            ("drift", Kind::Required),
-            ("cache", Kind::Optional),
-            ("keep", Kind::Optional),
+            ("port", REQUIRED),
+            ("drift", REQUIRED),
+            ("cache", OPTIONAL),
+            ("keep", OPTIONAL),
         ],
     },
     Line {
         name: "check",
-        args: &[("store", Kind::Required)],
+        args: &[("store", REQUIRED)],
     },
 ];
 
@@ -83,20 +115,20 @@ static FRONT: [Line; 2] = [
     Line {
         name: "shell",
         args: &[
-            ("port", Kind::Required),
-            ("links", Kind::Optional),
-            ("cache", Kind::Optional),
-            ("quiet", Kind::Flag),
-            ("command", Kind::Rest),
+            ("port", REQUIRED),
+            ("links", OPTIONAL),
+            ("cache", OPTIONAL),
+            ("quiet", FLAG),
+            ("command", REST),
         ],
     },
     Line {
         name: "share",
         args: &[
-            ("dir", Kind::Placed),
-            ("port", Kind::Optional),
-            ("term", Kind::Optional),
-            ("unsynced", Kind::Flag),
+            ("dir", PLACED),
+            ("port", OPTIONAL),
+            ("term", OPTIONAL),
+            ("unsynced", FLAG),
         ],
     },
 ];
@@ -122,14 +154,11 @@ fn arg_of<'a>(alloc: Global, name: &'a str, kind: Kind) -> Arg<'a>
     ensures rule { rule_of result ≡ rule kind name.entry.now }
     ensures own { result.global ≡ false }
 {
-    let arg = Arg::new(alloc, name);
-    match kind {
-        Kind::Optional => arg.long(name).action(ArgAction::Set),
-        Kind::Required => arg.long(name).required(true).action(ArgAction::Set),
-        Kind::Flag => arg.long(name).action(ArgAction::SetTrue),
-        Kind::Placed => arg.required(true).action(ArgAction::Set),
-        Kind::Rest => arg.action(ArgAction::Append).trailing_var_arg(true),
-    }
+    let arg = Arg::new(alloc, name)
+        .required(kind.required)
+        .action(kind.action)
+        .trailing_var_arg(kind.rest);
+    if kind.is_option { arg.long(name) } else { arg }
 }
 
 /// A command with its arguments.
@@ -166,8 +195,7 @@ pub(crate) fn matches_of<'a>(
     words: &'a [String],
 ) -> Result<ArgMatches<'a>, Error>
     ensures matches { IfOk result (HasMatchesOf (program lines.now) (map (λ w. string_bytes w) words.entry.now)) }
-    ensures kinds { is_simple_and_free (program lines.now) ≡ true
-        → FailsBy (fault_of (program lines.now) (map (λ w. string_bytes w) words.entry.now)) result }
+    ensures kinds { is_simple_and_free (program lines.now) ≡ true → FailsBy (fault_of (program lines.now) (map (λ w. string_bytes w) words.entry.now)) result }
 {
     let program = program_of(alloc, lines)?;
     program.try_get_matches_from(words)

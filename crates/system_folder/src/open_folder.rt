@@ -126,6 +126,14 @@ pub(crate) fn file_named(name: &[u8]) -> Option<(Which, bool)> {
     }
 }
 
+/// Adds a file, if it is a record's or a new one beside it.
+fn add_found(found: &mut Vec<(Which, bool)>, name: &str) -> Result<(), AllocError> {
+    if let Some(one) = file_named(name.as_bytes()) {
+        found.push(one)?;
+    }
+    Ok(())
+}
+
 /// The files of a folder, by their records.
 pub fn files_there<R: Files + AllocGlobal + Clone + Drop>(
     rt: &R,
@@ -134,10 +142,7 @@ pub fn files_there<R: Files + AllocGlobal + Clone + Drop>(
 ) -> io::Result<Vec<(Which, bool)>> {
     let mut found = Vec::new(alloc);
     for entry in fs::read_dir(rt, folder)? {
-        let entry = entry?;
-        if let Some(one) = file_named(entry.file_name().as_bytes()) {
-            found.push(one)?;
-        }
+        add_found(&mut found, entry?.file_name())?;
     }
     found.sort()?;
     Ok(found)
@@ -190,6 +195,7 @@ fn lost_before() -> Error {
     Error::from(ErrorKind::BrokenPipe)
 }
 
+// A bound is paid for in the proof of each function that has it, so each has those alone that it needs.
 impl<R: Files<File = File> + AllocGlobal + Clone + Drop> OpenFolder<R> {
     /// The folder at a place, by its lock. The one error is running out of memory.
     pub(crate) fn new(
@@ -223,16 +229,82 @@ impl<R: Files<File = File> + AllocGlobal + Clone + Drop> OpenFolder<R> {
         stranger_in(&self.rt, self.alloc, self.paths.folder())
     }
 
-    /// By what the folder is reached.
-    pub(crate) fn rt(&self) -> &R {
-        &self.rt
+    /// A change of an earlier form that was made is carried out, and goes. That form flushed nothing: the list
+    /// and the files are on the disk before they are touched, and what was done is before the list goes.
+    pub(crate) fn finish_list(&mut self) -> io::Result<()> {
+        self.paths.name_list()?;
+        unless_gone(fs::remove_file(&self.rt, self.paths.beside()))?;
+        match read_file(&self.rt, self.alloc, self.paths.at(), READ_MOST)? {
+            Some(list) => {
+                let lines = lines_in(self.alloc, list.as_slice())?;
+                self.redo_list(lines.as_slice())
+            }
+            None => Ok(()),
+        }
     }
 
-    /// The path of the file that was named last.
-    pub(crate) fn at(&self) -> &str {
-        self.paths.at()
+    /// A list of a change is carried out, and goes.
+    fn redo_list(&mut self, lines: &[Line]) -> io::Result<()> {
+        if !self.unsynced {
+            flush_file(&self.rt, self.paths.at())?;
+        }
+        self.flush_all()?;
+        carry_out(&self.rt, &mut self.paths, lines)?;
+        self.flush_folder()?;
+        self.paths.name_list()?;
+        unless_gone(fs::remove_file(&self.rt, self.paths.at()))?;
+        self.flush_folder()
     }
 
+    /// The files that are there, by their records.
+    pub(crate) fn names(&mut self, alloc: Global) -> io::Result<Vec<FileName>> {
+        self.paths.name_folder()?;
+        let there = files_there(&self.rt, alloc, self.paths.folder())?;
+        let mut names = Vec::with_capacity(alloc, there.len())?;
+        for (which, is_new) in there.iter() {
+            names.push(if *is_new {
+                FileName::New(*which)
+            } else {
+                FileName::Record(*which)
+            })?;
+        }
+        Ok(names)
+    }
+
+    /// All files that were written are on the disk, and the names.
+    pub(crate) fn flush_all(&mut self) -> io::Result<()> {
+        if self.unsynced {
+            return Ok(());
+        }
+        if self.lost {
+            return Err(lost_before());
+        }
+        let done = self.flush_loose();
+        self.lost = done.is_err();
+        done?;
+        self.loose.clear();
+        self.flush_folder()
+    }
+
+    /// What was written is on the disk, and the first time what is there of earlier runs. One that is gone
+    /// needs nothing.
+    fn flush_loose(&mut self) -> io::Result<()> {
+        let names = if self.is_left {
+            self.names(self.alloc)?
+        } else {
+            mem::replace(&mut self.loose, Vec::new(self.alloc))
+        };
+        for name in &names {
+            self.paths.name_file(*name)?;
+            flush_file(&self.rt, self.paths.at())?;
+        }
+        self.is_left = false;
+        Ok(())
+    }
+}
+
+// What lists no names.
+impl<R: Files<File = File>> OpenFolder<R> {
     /// The log and the reserve go.
     pub(crate) fn drop_log(&mut self) -> io::Result<()> {
         self.remove_reserve()?;
@@ -308,33 +380,6 @@ impl<R: Files<File = File> + AllocGlobal + Clone + Drop> OpenFolder<R> {
         unless_gone(fs::remove_file(&self.rt, self.paths.at()))
     }
 
-    /// A change of an earlier form that was made is carried out, and goes. That form flushed nothing: the list
-    /// and the files are on the disk before they are touched, and what was done is before the list goes.
-    pub(crate) fn finish_list(&mut self) -> io::Result<()> {
-        self.paths.name_list()?;
-        unless_gone(fs::remove_file(&self.rt, self.paths.beside()))?;
-        match read_file(&self.rt, self.alloc, self.paths.at(), READ_MOST)? {
-            Some(list) => {
-                let lines = lines_in(self.alloc, list.as_slice())?;
-                self.redo_list(lines.as_slice())
-            }
-            None => Ok(()),
-        }
-    }
-
-    /// A list of a change is carried out, and goes.
-    fn redo_list(&mut self, lines: &[Line]) -> io::Result<()> {
-        if !self.unsynced {
-            flush_file(&self.rt, self.paths.at())?;
-        }
-        self.flush_all()?;
-        carry_out(&self.rt, &mut self.paths, lines)?;
-        self.flush_folder()?;
-        self.paths.name_list()?;
-        unless_gone(fs::remove_file(&self.rt, self.paths.at()))?;
-        self.flush_folder()
-    }
-
     /// The bytes of a file, if it is there.
     pub(crate) fn read(&mut self, alloc: Global, name: FileName) -> io::Result<Option<Vec<u8>>> {
         self.paths.name_file(name)?;
@@ -346,21 +391,6 @@ impl<R: Files<File = File> + AllocGlobal + Clone + Drop> OpenFolder<R> {
         };
         self.paths.name_made(id)?;
         Ok(Some(unless_made(&self.rt, bytes, self.paths.at())?))
-    }
-
-    /// The files that are there, by their records.
-    pub(crate) fn names(&mut self, alloc: Global) -> io::Result<Vec<FileName>> {
-        self.paths.name_folder()?;
-        let there = files_there(&self.rt, alloc, self.paths.folder())?;
-        let mut names = Vec::with_capacity(alloc, there.len())?;
-        for (which, is_new) in there.iter() {
-            names.push(if *is_new {
-                FileName::New(*which)
-            } else {
-                FileName::Record(*which)
-            })?;
-        }
-        Ok(names)
     }
 
     /// Writes a file.
@@ -437,14 +467,6 @@ impl<R: Files<File = File> + AllocGlobal + Clone + Drop> OpenFolder<R> {
         unless_gone(fs::remove_file(&self.rt, self.paths.at()))
     }
 
-    /// Whether a file that finds no room may have the reserve's.
-    fn may_take(&self, name: FileName) -> bool {
-        match name {
-            FileName::Record(_) => self.reserve,
-            FileName::New(_) => false,
-        }
-    }
-
     /// The bytes of a file are on the disk.
     pub(crate) fn flush(&mut self, name: FileName) -> io::Result<()> {
         self.paths.name_file(name)?;
@@ -482,51 +504,6 @@ impl<R: Files<File = File> + AllocGlobal + Clone + Drop> OpenFolder<R> {
         }
     }
 
-    /// All files that were written are on the disk, and the names.
-    pub(crate) fn flush_all(&mut self) -> io::Result<()> {
-        if self.unsynced {
-            return Ok(());
-        }
-        if self.lost {
-            return Err(lost_before());
-        }
-        let done = self.flush_loose();
-        self.lost = done.is_err();
-        done?;
-        self.loose.clear();
-        self.flush_folder()
-    }
-
-    /// What was written is on the disk, and the first time what is there of earlier runs. One that is gone
-    /// needs nothing.
-    fn flush_loose(&mut self) -> io::Result<()> {
-        let names = if self.is_left {
-            self.names(self.alloc)?
-        } else {
-            mem::replace(&mut self.loose, Vec::new(self.alloc))
-        };
-        for name in &names {
-            self.paths.name_file(*name)?;
-            flush_file(&self.rt, self.paths.at())?;
-        }
-        self.is_left = false;
-        Ok(())
-    }
-
-    /// The names are on the disk.
-    pub(crate) fn flush_folder(&mut self) -> io::Result<()> {
-        self.paths.name_folder()?;
-        if self.unsynced {
-            return Ok(());
-        }
-        if self.lost {
-            return Err(lost_before());
-        }
-        let done = self.lock.sync_all();
-        self.lost = done.is_err();
-        done
-    }
-
     /// The lines of the log.
     pub(crate) fn lines(&mut self, alloc: Global) -> io::Result<Vec<Line>> {
         self.paths.name_log()?;
@@ -551,17 +528,6 @@ impl<R: Files<File = File> + AllocGlobal + Clone + Drop> OpenFolder<R> {
             }
             done => done,
         }
-    }
-
-    /// Room is scarce: the log gives back what it has beyond its own. Where that fails a flush may have failed. Whether
-    /// any went.
-    fn note_scarce(&mut self) -> io::Result<bool> {
-        let Some(log) = &mut self.log else {
-            return Ok(false);
-        };
-        let done = log.note_scarce();
-        self.lost = self.lost || done.is_err();
-        done
     }
 
     /// The log has so many entries; the first call makes its file anew.
@@ -600,27 +566,6 @@ impl<R: Files<File = File> + AllocGlobal + Clone + Drop> OpenFolder<R> {
     fn flush_left_log(&mut self) -> io::Result<()> {
         flush_file(&self.rt, self.paths.at())?;
         self.lock.sync_all()
-    }
-
-    /// How many entries the log has.
-    pub(crate) fn count(&self) -> usize {
-        match &self.log {
-            Some(log) => log.count(),
-            None => 0,
-        }
-    }
-
-    /// Whether the log is to be carried out.
-    pub(crate) fn is_long(&self) -> bool {
-        match &self.log {
-            Some(log) => log.is_long(self.kept),
-            None => false,
-        }
-    }
-
-    /// Whether the reserve is there.
-    pub(crate) fn has_reserve(&self) -> bool {
-        self.reserve
     }
 
     /// Makes the reserve, if it isn't there or is small, and as many of its empty files as there is room for.
@@ -701,5 +646,72 @@ impl<R: Files<File = File> + AllocGlobal + Clone + Drop> OpenFolder<R> {
             Ok(()) => has_room(&self.rt, self.paths.at(), len),
             Err(_want) => false,
         }
+    }
+}
+
+// What reaches no files but those that are open.
+impl<R> OpenFolder<R> {
+    /// By what the folder is reached.
+    pub(crate) fn rt(&self) -> &R {
+        &self.rt
+    }
+
+    /// The path of the file that was named last.
+    pub(crate) fn at(&self) -> &str {
+        self.paths.at()
+    }
+
+    /// Whether a file that finds no room may have the reserve's.
+    fn may_take(&self, name: FileName) -> bool {
+        match name {
+            FileName::Record(_) => self.reserve,
+            FileName::New(_) => false,
+        }
+    }
+
+    /// The names are on the disk.
+    pub(crate) fn flush_folder(&mut self) -> io::Result<()> {
+        self.paths.name_folder()?;
+        if self.unsynced {
+            return Ok(());
+        }
+        if self.lost {
+            return Err(lost_before());
+        }
+        let done = self.lock.sync_all();
+        self.lost = done.is_err();
+        done
+    }
+
+    /// Room is scarce: the log gives back what it has beyond its own. Where that fails a flush may have failed. Whether
+    /// any went.
+    fn note_scarce(&mut self) -> io::Result<bool> {
+        let Some(log) = &mut self.log else {
+            return Ok(false);
+        };
+        let done = log.note_scarce();
+        self.lost = self.lost || done.is_err();
+        done
+    }
+
+    /// How many entries the log has.
+    pub(crate) fn count(&self) -> usize {
+        match &self.log {
+            Some(log) => log.count(),
+            None => 0,
+        }
+    }
+
+    /// Whether the log is to be carried out.
+    pub(crate) fn is_long(&self) -> bool {
+        match &self.log {
+            Some(log) => log.is_long(self.kept),
+            None => false,
+        }
+    }
+
+    /// Whether the reserve is there.
+    pub(crate) fn has_reserve(&self) -> bool {
+        self.reserve
     }
 }
