@@ -13,7 +13,7 @@ ghost use Rattle.open_close.specs.Putting.{put_of};
 ghost use Rattle.open_close.specs.Step.{command_step, got_step, Misses, MayMissCommand};
 ghost use Rattle.client_state.specs.Ending.{cut, joined};
 
-use crate::taking;
+use crate::{commands, taking};
 use chunk_index::index::Key;
 use chunk_index::place::Place;
 use client_cache::cache::Cache;
@@ -114,7 +114,7 @@ impl Client {
     {
         let before = self.state.clock();
         self.state.set_clock(now);
-        match taking::put(alloc, &mut self.state, file, content) {
+        match commands::put(alloc, &mut self.state, file, content) {
             Ok(step) => step,
             Err(_) => {
                 self.state.set_clock(before);

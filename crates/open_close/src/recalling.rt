@@ -4,7 +4,7 @@
 ghost use Rattle.std.specs.Prelude.{◌≡◌, false};
 ghost use Rattle.client_state.specs.Counting.{sends_one};
 ghost use Rattle.client_state.specs.View.{state_of, IsSound};
-ghost use Rattle.open_close.specs.Step.{recalls, called_back, called};
+ghost use Rattle.open_close.specs.Step.{recalls, called};
 ghost use Rattle.wire.specs.declared.message.Body.TheVariants as body;
 ghost use Rattle.wire.specs.declared.message.Message.TheVariants as message;
 ghost use Rattle.xdr_codec.specs.Handle.{file_of};
@@ -36,25 +36,8 @@ fn answers(alloc: Global, xid: u32, answer: Back) -> ClientStep
     parts::sends_one(alloc, Message::Answer(xid, Body::Back(answer)), 0)
 }
 
-/// A call of the callback program: it is answered, and what is noted of a file goes where a RECALL asks for
-/// its lease back. It takes no memory.
-fn called_back(alloc: Global, state: &mut ClientState, xid: u32, call: &Back) -> ClientStep
-    requires { IsSound state.old }
-    ensures ok { called_back (state_of state.old) xid call.now ≡ (state_of state.new, result) }
-    ensures done { result.missed ≡ false }
-    ensures sound { IsSound state.new }
-{
-    match call {
-        Back::Recall(handle) => {
-            recall(state, handle);
-            answers(alloc, xid, Back::RecallAnswer)
-        }
-        Back::Null => answers(alloc, xid, Back::NullAnswer),
-        _ => parts::nothing_done(alloc),
-    }
-}
-
-/// A call. It takes no memory.
+/// A call. One of the callback program is answered, and what is noted of a file goes where a RECALL asks for its
+/// lease back. It takes no memory.
 pub fn called(alloc: Global, state: &mut ClientState, xid: u32, body: &Body) -> ClientStep
     requires { IsSound state.old }
     ensures ok { called (state_of state.old) xid body.now ≡ (state_of state.new, result) }
@@ -62,7 +45,11 @@ pub fn called(alloc: Global, state: &mut ClientState, xid: u32, body: &Body) -> 
     ensures sound { IsSound state.new }
 {
     match body {
-        Body::Back(call) => called_back(alloc, state, xid, call),
+        Body::Back(Back::Recall(handle)) => {
+            recall(state, handle);
+            answers(alloc, xid, Back::RecallAnswer)
+        }
+        Body::Back(Back::Null) => answers(alloc, xid, Back::NullAnswer),
         _ => parts::nothing_done(alloc),
     }
 }

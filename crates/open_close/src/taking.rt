@@ -4,7 +4,6 @@ ghost use Rattle.std.specs.Prelude.{◌≡◌, IfOk, OnOk, OnErr, false, Ok};
 ghost use Rattle.file_open.specs.Looking.{with_file, reading_by, entering_by, entering};
 ghost use Rattle.file_open.specs.Fetching.{Comes};
 ghost use Rattle.client_state.specs.Ending.{forgets};
-ghost use Rattle.open_close.specs.Putting.{put_of};
 ghost use Rattle.open_close.specs.Step.{lease_in, takes, took, does, got_message, got_fault, hears, missed_at, MayMiss, MayMissCommand, InCommit, fault_of};
 ghost use Rattle.client_state.specs.View.{state_of, whole_of, IsHeld, IsSound, HasXids, IsWithin, StageIsThere};
 ghost use Rattle.wire.specs.declared.message.Message.TheVariants as message;
@@ -16,7 +15,6 @@ use client_state::step::{BadPeer, ClientStep};
 use client_state::task::{Stage, Task};
 use client_state::{parts, waiting};
 use command_text::command::Command;
-use cut_bytes::CutBytes;
 use file_close::closing;
 use file_open::{opening, rewriting};
 use std::alloc::{AllocError, Global};
@@ -54,24 +52,6 @@ pub fn command(
         Command::Abandon(file) => Ok(commands::abandon(alloc, state, file)),
         Command::Named(command) => walking::walk(alloc, state, command),
     }
-}
-
-/// A write from the first byte on, of a content that is whole. An `Err` changes nothing, and comes only where
-/// memory is taken.
-pub fn put(
-    alloc: Global,
-    state: &mut ClientState,
-    file: u64,
-    content: CutBytes,
-) -> Result<ClientStep, AllocError>
-    requires { IsSound state.old }
-    ensures ok { IfOk result (λ a. does (state_of state.old) (put_of file content) ≡ (state_of state.new, a)) }
-    ensures done { IfOk result (λ a. a.missed ≡ false) }
-    ensures err { OnErr result (state_of state.new ≡ state_of state.old) }
-    ensures sure { OnErr result (MayMissCommand (state_of state.old) (put_of file content)) }
-    ensures sound { IsSound state.new }
-{
-    commands::put(alloc, state, file, content)
 }
 
 /// What is wrong with a record that is no message.
@@ -139,43 +119,8 @@ fn lease_in(stage: &Stage, body: &Body) -> Option<Granted>
     }
 }
 
-/// As `takes`, and the lease that it grants is noted. An `Err` changes nothing, and doesn't come once
-/// COMMITTMP was sent.
-fn took(
-    alloc: Global,
-    state: &mut ClientState,
-    task: Task,
-    xid: u32,
-    body: &mut Body,
-) -> Result<ClientStep, AllocError>
-    requires held { IsHeld state.old }
-    requires xids { HasXids state.old.next_xid task.stage }
-    requires within { IsWithin task.stage }
-    requires there { StageIsThere state.old.cache task.file task.stage }
-    ensures ok { IfOk result (λ a. Comes state.old.index
-        (entering_by (state_of state.old)
-        (with_file task.file (reading_by task.stage xid body.old)))
-        (took (state_of state.old) state.old.waiting.calls task.file task.stage xid body.old)
-        (state_of state.new) a) }
-    ensures err { OnErr result (whole_of state.new ≡ whole_of state.old) }
-    ensures calm { OnErr result (InCommit task.stage → ⊥) }
-    ensures sound { OnOk result (IsSound state.new) }
-    ensures held { OnErr result (IsHeld state.new) }
-{
-    let sent = state.sent();
-    let file = task.file;
-    let granted = lease_in(&task.stage, body);
-    match takes(alloc, state, task, xid, body) {
-        Ok(step) => {
-            state.note(sent, file, granted);
-            Ok(step)
-        }
-        Err(error) => Err(error),
-    }
-}
-
-/// An answer to a call of the operation under way. An `Err` ends that, and doesn't come once
-/// COMMITTMP was sent.
+/// An answer to a call of the operation under way, and the lease that it grants is noted. An `Err` ends that,
+/// and doesn't come once COMMITTMP was sent.
 fn take_own(
     alloc: Global,
     state: &mut ClientState,
@@ -196,11 +141,17 @@ fn take_own(
     ensures calm { OnErr result (InCommit task.stage → ⊥) }
     ensures sound { IsSound state.new }
 {
-    let done = took(alloc, state, task, xid, &mut body);
-    drop(body);
-    match done {
-        Ok(step) => Ok(step),
+    let sent = state.sent();
+    let file = task.file;
+    let granted = lease_in(&task.stage, &body);
+    match takes(alloc, state, task, xid, &mut body) {
+        Ok(step) => {
+            drop(body);
+            state.note(sent, file, granted);
+            Ok(step)
+        }
         Err(error) => {
+            drop(body);
             state.forget(alloc, xid);
             Err(error)
         }

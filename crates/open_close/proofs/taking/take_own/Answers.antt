@@ -8,13 +8,13 @@ use Rattle.file_open.specs.Fetching.{Comes}
 use Rattle.file_open.specs.Looking.{Entering, with_file, reading_by, entering_by}
 use Rattle.open_close.specs.Step.{lease_in, takes, took}
 use Rattle.open_close.proofs.Notings.{comes_noted}
-use Rattle.open_close.proofs.taking.took.Goals as goal
+use Rattle.open_close.proofs.taking.take_own.Goals as goal
 
 pub returns-in-Ok-clause-ok : goal.returns-in-Ok-clause-ok
 returns-in-Ok-clause-ok c =
     let s = c.args.state.now in
     let t = c.args.task in
-    let b = c.args.body.now in
+    let b = c.args.body in
     let enters : Option Entering = entering_by (state_of s) (with_file t.file (reading_by t.stage c.args.xid b)) in
     subst (λ (n : State). Comes s.index enters (took (state_of s) s.waiting.calls t.file t.stage c.args.xid b) n c.in-Ok.step)
     (sym (c.note.ensures.rest ∙ (ap (λ (n : ℕ). noted (state_of c.takes.new.state) n t.file c.lease_in-granted.result) c.sent-sent.ensures ∙ ap (λ (g : Option Granted). noted (state_of c.takes.new.state) s.sent t.file g) c.lease_in-granted.ensures)))
