@@ -10,7 +10,7 @@ use rpc_record::refusal::MarkError;
 use std::alloc::AllocError;
 
 /// Why no more records come, or messages go.
-#[derive(Clone, Copy, Debug, Drop)]
+#[derive(Clone, Copy, Drop)]
 pub enum End {
     /// The input ended.
     InputEnd,

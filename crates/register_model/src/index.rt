@@ -3,7 +3,8 @@
 
 ghost use Rattle.std.specs.Prelude.{true, false, ◌≡◌, ◌+◌, ◌<◌, ◌≤◌, ◌++◌, List, length, not, IfOk, OnOk, IfSome, nat_lt, Bool, All};
 ghost use Rattle.std.specs.List.{list_any, AllWithin};
-ghost use Rattle.std.specs.List.Sorted.{IsNonDecreasingBy};
+ghost use Rattle.std.specs.List.Sorted.{IsNonDecreasingBy, IsSortedByKey};
+ghost use Rattle.std.specs.Ordering.{nat_cmp};
 ghost use Rattle.register_model.specs.Index.{mark_of, marks_from, HasMarks, RisesByFile, IsIndexOf, is_clash, is_lower, IsLastBelow};
 
 use crate::op::Op;
@@ -63,16 +64,18 @@ fn marks_of(alloc: Global, ops: &[Op]) -> Result<Vec<Mark>, AllocError>
 fn sort_by_point(marks: &mut Vec<Mark>)
     ensures same { (test : Mark → Bool) → list_any test marks.new.items ≡ list_any test marks.old.items }
     ensures rise { IsNonDecreasingBy (λ m. m.point) marks.new.items }
+    ensures sorted { IsSortedByKey (λ m. m.point) nat_cmp marks.new.items }
 {
     marks.sort_unstable_by_key(|mark| mark.point);
 }
 
-/// Puts marks in the order of their files, those of one file in the order of their points.
+/// Puts marks that stand in the order of their points in that of their files, those of one file as they
+/// stood.
 fn sort_by_file(marks: &mut Vec<Mark>) -> Result<(), AllocError>
+    requires { IsSortedByKey (λ m. m.point) nat_cmp marks.old.items }
     ensures same { (test : Mark → Bool) → list_any test marks.new.items ≡ list_any test marks.old.items }
     ensures rise { OnOk result (RisesByFile marks.new.items) }
 {
-    marks.sort_by_key(|mark| mark.point)?;
     marks.sort_by_key(|mark| mark.file)
 }
 
@@ -84,6 +87,7 @@ impl Index {
         let mut by_point = marks_of(alloc, ops)?;
         sort_by_point(&mut by_point);
         let mut by_file = marks_of(alloc, ops)?;
+        sort_by_point(&mut by_file);
         sort_by_file(&mut by_file)?;
         Ok(Index { by_point, by_file })
     }

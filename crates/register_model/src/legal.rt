@@ -143,7 +143,12 @@ fn are_all_right(history: &IndexedHistory) -> bool
     requires { are_points_apart history.now.ops ≡ true }
     ensures { result ≡ are_all_right history.now }
 {
-    history.ops().iter().all(|op| is_right(history, op))
+    for op in history.ops() {
+        if !is_right(history, op) {
+            return false;
+        }
+    }
+    true
 }
 
 /// The test of a legal history.

@@ -4,7 +4,7 @@
 ghost use Rattle.std.specs.Prelude.{◌≡◌};
 ghost use Rattle.register_model.specs.Register.{changes, is_opened, is_closed, is_done, is_stale, is_lost, is_untold, succeeded};
 ghost use Rattle.register_model.specs.Test.{is_open};
-ghost use Rattle.register_model.specs.Summary.{is_running, is_other, is_refused};
+ghost use Rattle.register_model.specs.Summary.{is_other, is_refused};
 
 use lb_base::items::{Bytes, Items, Name};
 use shared_bytes::SharedBytes;
@@ -287,13 +287,6 @@ impl Outcome {
         matches!(self, Outcome::Lost | Outcome::Running)
     }
 
-    /// It hasn't ended.
-    pub fn is_running(&self) -> bool
-        ensures { result ≡ is_running self.now }
-    {
-        matches!(self, Outcome::Running)
-    }
-
     /// It was done, and was neither an open nor a close.
     pub fn is_other(&self) -> bool
         ensures { result ≡ is_other self.now }
@@ -308,7 +301,16 @@ impl Outcome {
     pub fn is_refused(&self) -> bool
         ensures { result ≡ is_refused self.now }
     {
-        !(self.is_opened() || self.is_closed() || self.is_other() || self.is_running())
+        !matches!(
+            self,
+            Outcome::Opened { .. }
+                | Outcome::Closed { .. }
+                | Outcome::Done
+                | Outcome::Piece { .. }
+                | Outcome::Names(_)
+                | Outcome::Seen { .. }
+                | Outcome::Running
+        )
     }
 }
 

@@ -12,8 +12,12 @@ use crate::op::Opening;
 pub fn content_of(opening: &[Opening], file: u64) -> Option<&[u8]>
     ensures { option_copied result ≡ content_of opening.now file }
 {
-    let found = opening.iter().find(|opening| opening.file == file)?;
-    Some(found.content.as_slice())
+    for found in opening {
+        if found.file == file {
+            return Some(found.content.as_slice());
+        }
+    }
+    None
 }
 
 /// Whether the files stand in the order of their ids.

@@ -82,7 +82,7 @@ fn ended_so(way: Way, outcome: &Outcome) -> bool
         Way::Closed => outcome.is_closed(),
         Way::Other => outcome.is_other(),
         Way::Refused => outcome.is_refused(),
-        Way::Running => outcome.is_running(),
+        Way::Running => matches!(outcome, Outcome::Running),
     }
 }
 
@@ -90,7 +90,13 @@ fn ended_so(way: Way, outcome: &Outcome) -> bool
 fn count(ops: &[Op], way: Way) -> usize
     ensures { result ≡ ended (ended_so way) ops.now }
 {
-    ops.iter().filter(|op| ended_so(way, &op.outcome)).count()
+    let mut found = 0;
+    for op in ops {
+        if ended_so(way, &op.outcome) {
+            found += 1;
+        }
+    }
+    found
 }
 
 /// How many operations ended in each way.

@@ -5,7 +5,7 @@ ghost use Rattle.std.specs.Prelude.{◌≡◌, ℕ, ◌+◌, ◌<◌, ◌^◌, L
 ghost use Rattle.std.specs.Fmt.{decimal};
 ghost use Rattle.std.specs.Option.{option_copied};
 ghost use Rattle.register_model.specs.declared.op.Outcome.TheVariants as outcome;
-ghost use Rattle.register_model.specs.Text.{history_text, summary_text, done_text, undone_text, ops_line, totals_line, op_name, op_times, op_line, op_lines, kind_text, raw_name, raw_told, raw_line};
+ghost use Rattle.register_model.specs.Text.{history_text, summary_text, ops_line, totals_line, op_name, op_times, op_line, op_lines, kind_text, raw_name, raw_told, raw_line};
 ghost use Rattle.register_model.specs.Text.{raw_lines, end_line, outcome_text, IsWordAlone, word_text, bytes_text, moment, traffic_text};
 
 use crate::history::History;
@@ -208,8 +208,7 @@ fn put_raw_told(alloc: Global, out: &mut String, raw: &Raw) -> Result<(), AllocE
     ensures { OnOk result (string_bytes out.new ≡ string_bytes out.old ++ raw_told raw.now) }
 {
     let (begin, point, version, len) = (raw.begin, raw.point, raw.version, raw.len);
-    write!(out, " begin {begin} point {point}")?;
-    write!(out, " version {version} {len}")?;
+    write!(out, " begin {begin} point {point} version {version} {len}")?;
     put_bytes(alloc, out, &raw.sha1)
 }
 
@@ -269,31 +268,23 @@ pub fn text(alloc: Global, history: &History) -> Result<Bytes, AllocError>
     Ok(Items::from_vec(out.into_bytes()))
 }
 
-/// How many operations were done.
-fn put_done(out: &mut String, endings: &Endings) -> Result<(), AllocError>
-    ensures { OnOk result (string_bytes out.new ≡ string_bytes out.old ++ done_text endings.now) }
-{
-    let (opened, closed, other) = (endings.opened, endings.closed, endings.other);
-    write!(out, " opened {opened} closed {closed} other {other}")
-}
-
-/// How many were not.
-fn put_undone(out: &mut String, endings: &Endings) -> Result<(), AllocError>
-    ensures { OnOk result (string_bytes out.new ≡ string_bytes out.old ++ undone_text endings.now) }
-{
-    let (refused, running) = (endings.refused, endings.running);
-    write!(out, " refused {refused} running {running}")
-}
-
 /// How many operations there were, and how they ended.
 fn put_counts(out: &mut String, counts: &Counts) -> Result<(), AllocError>
     ensures { OnOk result (string_bytes out.new ≡ string_bytes out.old ++ ops_line counts.now) }
 {
+    let Endings {
+        opened,
+        closed,
+        other,
+        refused,
+        running,
+    } = counts.endings;
     let ops = counts.ops;
-    write!(out, "ops {ops}")?;
-    put_done(out, &counts.endings)?;
-    put_undone(out, &counts.endings)?;
-    out.push_str("\n")
+    write!(
+        out,
+        "ops {ops} opened {opened} closed {closed} other {other} refused {refused} running {}\n",
+        running
+    )
 }
 
 /// What all of them sent and received.
@@ -306,8 +297,7 @@ fn put_totals(out: &mut String, totals: &Totals) -> Result<(), AllocError>
         read,
         data,
     } = *totals;
-    write!(out, "cond {cond} tmp {tmp} read {read} data {data}")?;
-    out.push_str("\n")
+    write!(out, "cond {cond} tmp {tmp} read {read} data {data}\n")
 }
 
 /// The counts of a history in three lines; the last is the number of entries in the server's

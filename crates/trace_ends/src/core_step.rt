@@ -13,7 +13,7 @@ use std::alloc::Global;
 use wire::message::Message;
 
 /// What becomes of the bytes on their way, before more are sent.
-#[derive(Clone, Copy, Drop)]
+#[derive(Clone, Copy)]
 pub enum Loss {
     /// They stay.
     Nothing,

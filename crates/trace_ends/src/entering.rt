@@ -2,7 +2,7 @@
 //! changed, and the step of each entry. `changed_file` and `newest_entries` in `specs/Core.antt` say
 //! which they are.
 
-ghost use Rattle.std.specs.Prelude.{◌≡◌, ◌++◌, drop, replicate, OnOk};
+ghost use Rattle.std.specs.Prelude.{◌≡◌, ◌++◌, replicate, OnOk};
 ghost use Rattle.std.specs.Option.{option_copied};
 ghost use Rattle.trace_ends.specs.Core.{is_of_file, newest_entries, changed_entry, changed_file};
 
@@ -29,22 +29,11 @@ fn changed_entry(entries: &[Entry]) -> Option<&Entry>
     None
 }
 
-/// The entries from a place on.
-fn entries_from(entries: &[Entry], place: usize) -> &[Entry]
-    ensures { result.now ≡ drop place entries.now }
-{
-    if place < entries.len() {
-        &entries[place..]
-    } else {
-        &[]
-    }
-}
-
 /// The last `made` entries.
 fn newest_entries(entries: &[Entry], made: u32) -> &[Entry]
     ensures { result.now ≡ newest_entries entries.now made }
 {
-    entries_from(entries, entries.len().saturating_sub(made as usize))
+    &entries[entries.len().saturating_sub(made as usize)..]
 }
 
 /// The first of the last `made` entries that is about a file's content.

@@ -1,8 +1,8 @@
 //! The operations of a history, as the steps of their clients make them. `specs/Ops.antt` says what
 //! becomes of them.
 
-ghost use Rattle.std.specs.Prelude.{◌≡◌, slice_get, IfOk, OnOk};
-ghost use Rattle.trace_ends.specs.Ops.{ops_after, ops_with, has_point, taken_at, point_if, value_of, counted, ended_op, file_with, op_after, begun};
+ghost use Rattle.std.specs.Prelude.{◌≡◌, IfOk, OnOk};
+ghost use Rattle.trace_ends.specs.Ops.{ops_with, has_point, taken_at, point_if, value_of, counted, ended_op, file_with, op_after, begun};
 
 use crate::commands::local_bytes;
 use client_state::step;
@@ -167,24 +167,6 @@ pub fn note(
     }
 }
 
-/// What becomes of the operation at this place, if there is one, in a step of its client.
-fn note_at(
-    alloc: Global,
-    ops: &mut Vec<Op>,
-    place: usize,
-    client: &Client,
-    taken: &[TakenCall],
-    step: u64,
-    acts: &ClientStep,
-) -> Result<(), AllocError>
-    ensures { OnOk result (ops.new.items ≡ ops_after ops.old.items place (slice_get ops.old.items place) client.now taken.now step acts.now) }
-{
-    if ops.len() <= place {
-        return Ok(());
-    }
-    note(alloc, &mut ops[place], client, taken, step, acts)
-}
-
 /// What becomes of the operations in a step of a client, whose own under way is at this place.
 pub fn note_with(
     alloc: Global,
@@ -197,8 +179,11 @@ pub fn note_with(
 ) -> Result<(), AllocError>
     ensures { OnOk result (ops.new.items ≡ ops_with ops.old.items place client.now taken.now step acts.now) }
 {
-    match place {
-        None => Ok(()),
-        Some(place) => note_at(alloc, ops, place, client, taken, step, acts),
+    let Some(place) = place else {
+        return Ok(());
+    };
+    if ops.len() <= place {
+        return Ok(());
     }
+    note(alloc, &mut ops[place], client, taken, step, acts)
 }

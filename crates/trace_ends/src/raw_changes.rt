@@ -3,7 +3,7 @@
 
 ghost use Rattle.std.specs.Prelude.{◌≡◌, ◌++◌, IfOk, OnOk};
 ghost use Rattle.chunk_calls.specs.Files.{file_at};
-ghost use Rattle.trace_ends.specs.Core.{content_in, newest_entries, changed_entry, raw_kind, raw_of, raw_by, raws_with};
+ghost use Rattle.trace_ends.specs.Core.{content_in, newest_entries, changed_entry, raw_kind, raw_of, raws_with};
 
 use crate::entering::entry_by;
 use lb_base::items::Items;
@@ -66,28 +66,6 @@ fn kind_of(kind: EntryKind) -> Option<RawKind>
     }
 }
 
-/// The change that an entry tells, if it is about a file's content, is added. The one error is running out
-/// of memory.
-fn put_entry(
-    alloc: Global,
-    raws: &mut Vec<Raw>,
-    server: &Server,
-    entry: &Entry,
-    begin: u64,
-    step: u64,
-) -> Result<(), AllocError>
-    ensures { OnOk result (raws.new.items ≡ raws.old.items ++ raw_by begin step server.now.tree entry.now (raw_kind entry.now.kind)) }
-{
-    match kind_of(entry.kind) {
-        Some(kind) => {
-            let raw = raw_of(alloc, server, entry, kind, begin, step)?;
-            raws.push(raw)?;
-            Ok(())
-        }
-        None => Ok(()),
-    }
-}
-
 /// The change that the last `made` entries of the journal tell, if they tell one, is added, where the session
 /// by which it was made is no client's: it began in one step and was made in another. The one error is
 /// running out of memory.
@@ -105,8 +83,13 @@ pub fn put_raw(
     if !is_raw {
         return Ok(());
     }
-    match entry_by(server.journal(), made) {
-        Some(entry) => put_entry(alloc, raws, server, entry, begin, step),
-        None => Ok(()),
-    }
+    let Some(entry) = entry_by(server.journal(), made) else {
+        return Ok(());
+    };
+    let Some(kind) = kind_of(entry.kind) else {
+        return Ok(());
+    };
+    let raw = raw_of(alloc, server, entry, kind, begin, step)?;
+    raws.push(raw)?;
+    Ok(())
 }

@@ -129,8 +129,8 @@ impl Seat {
         ensures acts { IfOk result (λ acts. (got_step self.old.client (parse_of (waiting_of self.old.client) bytes.now) now).1 ≡ acts) }
         ensures seat { IfOk result (λ acts.
             self.new ≡ record self.old {
-              client =
-                  (got_step self.old.client (parse_of (waiting_of self.old.client) bytes.now) now).0;
+              client = (got_step self.old.client
+                  (parse_of (waiting_of self.old.client) bytes.now) now).0;
               place = place_after self.old.place acts.ended;
             }) }
     {

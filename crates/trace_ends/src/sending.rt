@@ -2,7 +2,7 @@
 
 ghost use Rattle.std.specs.Prelude.{◌≡◌, OnOk};
 ghost use Rattle.trace_ends.specs.Numbers.{numbered};
-ghost use Rattle.trace_ends.specs.Wires.{up_put_in, up_put, message_put_in};
+ghost use Rattle.trace_ends.specs.Wires.{up_put, message_put_in};
 
 use crate::outbox::{put_each, put_one};
 use send_list::SendList;
@@ -12,26 +12,8 @@ use session_rules::wire::Wire;
 use std::alloc::{AllocError, Global};
 use wire::message::Message;
 
-/// Puts messages on their way up a session, unless the server saw it lost.
-fn up_put_in(
-    alloc: Global,
-    sessions: &[Session],
-    wires: &mut Vec<Wire>,
-    number: u32,
-    messages: &SendList<Message>,
-) -> Result<(), AllocError>
-    ensures { OnOk result (wires.new.items ≡ up_put_in wires.old.items number messages.now (numbered sessions.now number) (numbered wires.old.items number)) }
-{
-    match way_up(sessions, wires.len(), u64::from(number)) {
-        Some(place) => {
-            let wire = &mut wires[place];
-            put_each(alloc, &mut wire.up, messages)
-        }
-        None => Ok(()),
-    }
-}
-
-/// Puts the messages that a client sends on their way up its newest session.
+/// Puts the messages that a client sends on their way up its newest session, unless the server saw it
+/// lost.
 pub fn up_put(
     alloc: Global,
     sessions: &[Session],
@@ -41,9 +23,15 @@ pub fn up_put(
 ) -> Result<(), AllocError>
     ensures { OnOk result (wires.new.items ≡ up_put sessions.now wires.old.items number messages.now) }
 {
-    match number {
+    let Some(number) = number else {
+        return Ok(());
+    };
+    match way_up(sessions, wires.len(), u64::from(number)) {
+        Some(place) => {
+            let wire = &mut wires[place];
+            put_each(alloc, &mut wire.up, messages)
+        }
         None => Ok(()),
-        Some(number) => up_put_in(alloc, sessions, wires, number, messages),
     }
 }
 

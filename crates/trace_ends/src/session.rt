@@ -29,24 +29,17 @@ pub fn commanded(
     session.closing = closing_with(session.closing, place, word, &acts.ended);
 }
 
-/// Remembers a call that is taken, with its step.
-fn take(taken: &mut Vec<TakenCall>, message: &Message, step: u64) -> Result<(), AllocError>
-    ensures { OnOk result (taken.new.items ≡ taken_with taken.old.items message.now step) }
-{
-    match message {
-        Message::Call(xid, _) => {
-            taken.push(TakenCall { xid: *xid, step })?;
-            Ok(())
-        }
-        Message::Answer(..) | Message::Refuse(..) | Message::Unfit(..) => Ok(()),
-    }
-}
-
 /// Remembers a session's call that is taken, with its step.
 pub fn remember(session: &mut Session, message: &Message, step: u64) -> Result<(), AllocError>
     ensures { OnOk result (session.new ≡ record session.old { taken = taken_with session.old.taken message.now step }) }
 {
-    take(&mut session.taken, message, step)
+    match message {
+        Message::Call(xid, _) => {
+            session.taken.push(TakenCall { xid: *xid, step })?;
+            Ok(())
+        }
+        Message::Answer(..) | Message::Refuse(..) | Message::Unfit(..) => Ok(()),
+    }
 }
 
 /// The calls that the server took of a client's newest session.

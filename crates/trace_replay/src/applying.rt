@@ -6,13 +6,11 @@ ghost use Rattle.server_core.specs.State.{with_term};
 ghost use Rattle.trace_ends.specs.View.{core_of};
 ghost use Rattle.trace_replay.specs.Run.{with_file, with_directory, with_clients, turned};
 ghost use Rattle.trace_replay.specs.Turns.{IsTurnBounded};
-ghost use Rattle.trace_replay.specs.declared.state.Event.TheVariants as event;
 ghost use Rattle.trace_replay.specs.WorldView.{world_of};
 
 use crate::opening::OpeningFile;
 use crate::state::{Event, WorldState};
 use crate::turn::{Turn, stage_after};
-use command_text::command::Command;
 use command_text::content::{Content, build};
 use lb_base::items::Name;
 use shared_bytes::SharedBytes;
@@ -31,17 +29,6 @@ fn size_and_content(alloc: Global, size: u64, content: &Content) -> Result<(u64,
     let size = size.checked_add(bytes.len() as u64).ok_or(AllocError)?;
     let whole = Whole::new(alloc, SharedBytes::new(alloc, bytes)?)?;
     Ok((size, whole))
-}
-
-/// The event in which a client is given a command.
-fn does(client: u64, now: u64, command: Command) -> Event
-    ensures { result ≡ event.Does client now command }
-{
-    Event::Does {
-        client,
-        now,
-        command,
-    }
 }
 
 /// The server grants leases of so many milliseconds. No header has a term of 2^32, so there it is
@@ -98,7 +85,14 @@ impl WorldState {
                 client,
                 now,
                 command,
-            } => self.happens(alloc, does(client, now, command)),
+            } => self.happens(
+                alloc,
+                Event::Does {
+                    client,
+                    now,
+                    command,
+                },
+            ),
             Turn::Up {
                 session,
                 amount,

@@ -189,13 +189,6 @@ fn joins_if(standing: usize, client: u64, seats: &Vec<Seat>) -> Result<Turn, Lin
     }
 }
 
-/// Whether there is such a client.
-fn has_client(core: &Core, client: u64) -> bool
-    ensures { result ≡ is_there (numbered (core_of core.now).seats client) }
-{
-    place_of(core.seats.len(), client).is_some()
-}
-
 /// A session that is no client's is made, where so many stand and a further one can.
 fn raw_joins_within(standing: usize) -> Result<Turn, LineFault>
     ensures { result ≡ raw_joins_within (nat_lt standing sessions_most) }
@@ -210,7 +203,8 @@ fn raw_joins_within(standing: usize) -> Result<Turn, LineFault>
 fn by_client(core: &Core, client: u64, turn: Turn) -> Result<Turn, LineFault>
     ensures { result ≡ asks_if (is_there (numbered (core_of core.now).seats client)) turn }
 {
-    asks_if(has_client(core, client), turn)
+    let is_there = place_of(core.seats.len(), client).is_some();
+    asks_if(is_there, turn)
 }
 
 /// What is asked of a session that was made.
@@ -241,21 +235,15 @@ fn raw_asks(core: &Core, session: u64, bytes: Bytes) -> Result<Turn, LineFault>
     asks_if(core.sessions[place].is_raw(), Turn::Raw { session, bytes })
 }
 
-/// Whether there is such an index: the server's, or that of a client who is there.
-fn has_index(core: &Core, who: Who) -> bool
-    ensures { result ≡ has_index (core_of core.now) who }
-{
-    match who {
-        Who::Server => true,
-        Who::Client(client) => has_client(core, client),
-    }
-}
-
-/// What is asked of an index that is there.
+/// What is asked of an index that is there: the server's, or that of a client who is.
 fn of_index(core: &Core, who: Who, adjustment: Adjustment) -> Result<Turn, LineFault>
     ensures { result ≡ asks_if (has_index (core_of core.now) who) (turn.Adjust adjustment) }
 {
-    asks_if(has_index(core, who), Turn::Adjust(adjustment))
+    let turn = Turn::Adjust(adjustment);
+    match who {
+        Who::Server => Ok(turn),
+        Who::Client(client) => by_client(core, client, turn),
+    }
 }
 
 /// What a line asks for that changes an index or a cache alone, without a content.
