@@ -1,5 +1,5 @@
 -- Which records break a rule, by what stands with them and one after the other.
-use Rattle.std.proofs.Common.{◌≡◌, ℕ, suc, ◌+◌, ◌<◌, ◌≤◌, List, [], ◌∷◌, ◌++◌, length, drop, Option, Some, None, Result, Ok, Err, Bool, true, false, ◌==◌, ◌&&◌, ◌||◌, refl, sym, ap, ◌∙◌, subst, arith, if◌then◌else◌, nat_lt, nat_le}
+use Rattle.std.proofs.Common.{◌≡◌, ℕ, suc, ◌+◌, ◌<◌, ◌≤◌, List, [], ◌∷◌, ◌++◌, length, drop, append_assoc, append-nil, Option, Some, None, Result, Ok, Err, Bool, true, false, ◌==◌, ◌&&◌, ◌||◌, refl, sym, ap, ◌∙◌, subst, arith, if◌then◌else◌, nat_lt, nat_le}
 use mathlib.Core.Bool.{true≢false}
 use Rattle.std.specs.Prelude.{is_none}
 use Rattle.std.specs.List.{slice_get}
@@ -164,6 +164,25 @@ none_where records t e = subst (λ (a : Result Tree ℕ). Named a (broken record
 
 pub first_where : (records : List Kept) (k : ℕ) → load records ≡ Err k → Begins (Some k) (broken records)
 first_where records k e = subst (λ (a : Result Tree ℕ). Named a (broken records)) e (of_load records)
+
+-- ---- one after the other, as `add_from` goes over them
+
+pub one_more : (h : Head) (all : List Kept) (k sum sum' : ℕ) (r : Kept) (o : Option Rule) (found found' whole : List Broken)
+    → slice_get all k ≡ Some r → o ≡ rule_of h all k sum r → sum' ≡ sum_with o sum r → found' ≡ found ++ breach k o
+    → found ++ broken_from h all k sum (drop k all) ≡ whole → found' ++ broken_from h all (k + 1) sum' (drop (k + 1) all) ≡ whole
+one_more h all k sum sum' r o found found' whole at is counted added rest =
+    let next : k + 1 ≡ suc k = omega arith in
+    let sum_is = counted ∙ ap (λ z. sum_with z sum r) is in
+    let found_is = added ∙ ap (λ z. found ++ breach k z) is in
+    let later = broken_from h all (suc k) (sum_with (rule_of h all k sum r) sum r) (drop (k + 1) all) in
+    (λ i. found_is i ++ broken_from h all (next i) (sum_is i) (drop (k + 1) all))
+    ∙ append_assoc found (breach k (rule_of h all k sum r)) later
+    ∙ ap (λ rs. found ++ broken_from h all k sum rs) (sym (drop_next all k r at))
+    ∙ rest
+
+pub none_more : (h : Head) (all : List Kept) (k sum : ℕ) (found whole : List Broken) → length all ≤ k
+    → found ++ broken_from h all k sum (drop k all) ≡ whole → found ≡ whole
+none_more h all k sum found whole past rest = sym (ap (λ rs. found ++ broken_from h all k sum rs) (drop_past all k past) ∙ append-nil found) ∙ rest
 
 -- what `broken` goes by
 pub ruleset by_broken = (none_broken, head_broken, headless)
