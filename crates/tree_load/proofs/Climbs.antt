@@ -1,10 +1,11 @@
 -- Going up from the nodes of records.
-use Rattle.std.proofs.Common.{◌≡◌, ℕ, zero, suc, ◌+◌, ◌-◌, ◌/◌, ◌%◌, ◌<◌, ◌≤◌, List, [], ◌∷◌, ◌++◌, map, length, Option, Some, None, Bool, true, false, ◌==◌, ◌||◌, refl, sym, ap, ◌∙◌, subst, arith, if◌then◌else◌, nat_le}
+use Rattle.std.proofs.Common.{◌≡◌, ℕ, zero, suc, ◌+◌, ◌-◌, ◌/◌, ◌%◌, ◌<◌, ◌≤◌, List, [], ◌∷◌, ◌++◌, map, take, get_or, length, append_assoc, Option, Some, None, Bool, true, false, ◌==◌, ◌||◌, refl, sym, ap, ◌∙◌, subst, arith, if◌then◌else◌, nat_le}
 use mathlib.Core.Bool.{true≢false}
 use Rattle.std.specs.BTreeMap.{BTreeMap, get}
 use Rattle.std.specs.List.{slice_get, slice_index, AllByRecursion}
 use Rattle.std.specs.Ordering.{nat_cmp}
 use Rattle.std.proofs.lemmas.Bool.Decides.{nat_tests}
+use Rattle.std.proofs.lemmas.List.{map-append, take_all, take_more}
 use Rattle.store.specs.declared.record.Kept.{Kept}
 use Rattle.store.specs.declared.record.Kept.TheVariants as kept
 use Rattle.store.specs.declared.record.NodeRecord.{NodeRecord}
@@ -40,6 +41,21 @@ map_same f g same (r ∷ rs) = let first = same r in let rest = map_same f g sam
 
 pub ups_are : (all : List Kept) (m : BTreeMap ℕ Found) → AreFirstNodes 0 all m → map (up_by (length all) (λ id. found_place (get nat_cmp m id))) all ++ length all ∷ (length all + 1) ∷ [] ≡ ups all
 ups_are all m firsts = ap (λ z. z ++ length all ∷ (length all + 1) ∷ []) (map_same (up_by (length all) (λ id. found_place (get nat_cmp m id))) (up_by (length all) (λ id. place_of (first_node 0 all id))) (up_same (length all) (λ id. found_place (get nat_cmp m id)) (λ id. place_of (first_node 0 all id)) (λ id. ap found_place (firsts id) ∙ place_same (first_node 0 all id))) all)
+
+-- one record more
+pub step_more : (f : Kept → ℕ) (rs : List Kept) (k : ℕ) (r : Kept) (steps steps' : List ℕ) → k < length rs → r ≡ get_or rs k r → steps ≡ map f (take k rs) → steps' ≡ steps ++ f r ∷ [] → steps' ≡ map f (take (k + 1) rs)
+step_more f rs k r steps steps' within is so with =
+    with ∙ ap (λ z. z ++ f r ∷ []) so ∙ sym (map-append f (take k rs) (r ∷ []))
+    ∙ ap (λ z. map f z) (sym (take_more rs k r within ∙ ap (λ z. take k rs ++ z ∷ []) (sym is)))
+
+-- all records, then the root and nowhere
+pub steps_done : (all : List Kept) (m : BTreeMap ℕ Found) (k count : ℕ) (steps one two : List ℕ) → AreFirstNodes 0 all m → count ≡ length all → length all ≤ k
+    → steps ≡ map (up_by count (λ id. found_place (get nat_cmp m id))) (take k all) → one ≡ steps ++ count ∷ [] → two ≡ one ++ (count + 1) ∷ [] → two ≡ ups all
+steps_done all m k count steps one two firsts is past so first second =
+    second ∙ ap (λ z. z ++ (count + 1) ∷ []) first ∙ append_assoc steps (count ∷ []) ((count + 1) ∷ [])
+    ∙ ap (λ z. z ++ count ∷ (count + 1) ∷ []) (so ∙ ap (λ z. map (up_by count (λ id. found_place (get nat_cmp m id))) z) (take_all k all past))
+    ∙ ap (λ n. map (up_by n (λ id. found_place (get nat_cmp m id))) all ++ n ∷ (n + 1) ∷ []) is
+    ∙ ups_are all m firsts
 
 -- where a first node is
 pub record IsFirst (k : ℕ) (rs : List Kept) (id : ℕ) (p : ℕ × NodeRecord) : Type 0 where
