@@ -4,7 +4,7 @@ use Rattle.turn_post.specs.Passes.{seen, value_of}
 use Rattle.turn_post.proofs.lemmas.Fronts.{prefix_self, prefix_trans}
 use Rattle.server_law.specs.Growth.{MayAdd}
 use Rattle.server_turns.specs.Turned.{TakesOut}
-use Rattle.server_turns.proofs.Turnings.{seen_more}
+use Rattle.server_turns.proofs.Turnings.{seen_more, left_begins, left_few, turn_follows, follows_on}
 use Rattle.server_turns.proofs.shared.Shared.got.Goals as goal
 
 pub returns-in-Some-clause-answered : goal.returns-in-Some-clause-answered
@@ -55,3 +55,22 @@ returns-in-None-clause-answered g c = λ is.
           (subst (λ value. MayAdd (g.H.Journaled.journal value) (g.H.Journaled.journal c.got_in-got.new.held)) c.value.ensures.value c.got_in-got.ensures.grows) c.leave-pass.ensures.seen) c.wake-pass.ensures.1;
       later = c.settle.ensures.follows.1;
     }
+
+pub leave-pass-requires-clause-turn : goal.leave-pass-requires-clause-turn
+leave-pass-requires-clause-turn g c = c.enter-turn.ensures.post.0
+
+pub leave-pass-requires-clause-begins : goal.leave-pass-requires-clause-begins
+leave-pass-requires-clause-begins g c = left_begins g.H.Journaled.journal _ _ c.got_in-got.new.held _ c.enter-turn.ensures.found c.value.ensures.value c.got_in-got.ensures.grows
+
+pub leave-pass-requires-clause-few : goal.leave-pass-requires-clause-few
+leave-pass-requires-clause-few g c = left_few g.H.Journaled.journal _ _ c.got_in-got.new.held _ c.enter-turn.ensures.found c.value.ensures.value c.got_in-got.ensures.grows
+
+pub returns-in-Some-clause-follows : goal.returns-in-Some-clause-follows
+returns-in-Some-clause-follows g c =
+    let left = turn_follows g.H.Journaled.journal c.args.self.now.post c.args.pass c.leave-pass.result _ _ c.got_in-got.new.held _ c.enter-turn.ensures.found c.value.ensures.value c.got_in-got.ensures.grows (c.leave-pass.ensures.post ∙ c.enter-turn.ensures.post.1) c.enter-turn.ensures.seen c.leave-pass.ensures.seen c.enter-turn.ensures.known c.leave-pass.ensures.known in
+    follows_on c.args.self.now.post c.args.pass c.leave-pass.result c.wake-pass.result left c.wake-pass.ensures
+
+pub returns-in-None-clause-follows : goal.returns-in-None-clause-follows
+returns-in-None-clause-follows g c =
+    let left = turn_follows g.H.Journaled.journal c.args.self.now.post c.args.pass c.leave-pass.result _ _ c.got_in-got.new.held _ c.enter-turn.ensures.found c.value.ensures.value c.got_in-got.ensures.grows (c.leave-pass.ensures.post ∙ c.enter-turn.ensures.post.1) c.enter-turn.ensures.seen c.leave-pass.ensures.seen c.enter-turn.ensures.known c.leave-pass.ensures.known in
+    follows_on c.args.self.now.post c.args.pass c.wake-pass.result c.settle.result.0 (follows_on c.args.self.now.post c.args.pass c.leave-pass.result c.wake-pass.result left c.wake-pass.ensures) c.settle.ensures.follows
