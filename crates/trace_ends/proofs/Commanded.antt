@@ -40,7 +40,7 @@ left k first seats sessions ops acts = record {
   down = [];
 }
 
-seat_set : (seats : List Seat) (place : ℕ) (seat : Seat) → with_numbered seats (place + 1) seat ≡ slice_set seats place seat
+pub seat_set : (seats : List Seat) (place : ℕ) (seat : Seat) → with_numbered seats (place + 1) seat ≡ slice_set seats place seat
 seat_set seats place seat = simp unary_clauses refl
 
 -- what a command on names begins has no content to store

@@ -1,4 +1,5 @@
 mod Commanded
 mod Contents
+mod Joined
 mod Served
 mod Ways
