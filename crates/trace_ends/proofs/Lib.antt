@@ -1,5 +1,6 @@
 mod Commanded
 mod Contents
 mod Joined
+mod Seated
 mod Served
 mod Ways
