@@ -1,5 +1,6 @@
 mod Commanded
 mod Contents
+mod Got
 mod Joined
 mod Seated
 mod Served
