@@ -4,4 +4,5 @@ mod Got
 mod Joined
 mod Seated
 mod Served
+mod Settled
 mod Ways
