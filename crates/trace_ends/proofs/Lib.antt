@@ -1,3 +1,4 @@
+mod Acting
 mod Commanded
 mod Contents
 mod Got
