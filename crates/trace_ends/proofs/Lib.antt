@@ -1,4 +1,5 @@
 mod Acting
+mod Begun
 mod Commanded
 mod Contents
 mod Got
