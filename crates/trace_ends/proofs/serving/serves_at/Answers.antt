@@ -6,8 +6,8 @@ use Rattle.trace_ends.proofs.serving.serves_at.Goals as goal
 
 pub returns-in-Ok : goal.returns-in-Ok
 returns-in-Ok c =
-    serves_is (core_of c.args.core.now) c.args.place (c.args.place + 1) c.args.now c.args.bytes.now c.index.result.now (Ok c.in-Ok.message) c.got.result (λ t. core_step_of c.got.new.core t) c.requires.place (search rules) (search rules) (search rules) c.got.ensures
+    serves_is (core_of c.args.core.now) c.args.place (c.args.place + 1) c.args.now c.args.bytes.now c.index.result.now (Ok c.in-Ok.message) c.got.result (λ t. core_step_of c.got.new.core t) c.requires.place c.index.ensures (search rules) (search rules) c.got.ensures
 
 pub returns-in-Err : goal.returns-in-Err
 returns-in-Err c =
-    serves_is (core_of c.args.core.now) c.args.place (c.args.place + 1) c.args.now c.args.bytes.now c.index.result.now (Err c.in-Err.fault) c.serves_none.result (λ t. core_step_of c.serves_none.new.core t) c.requires.place (search rules) (search rules) (search rules) c.serves_none.ensures
+    serves_is (core_of c.args.core.now) c.args.place (c.args.place + 1) c.args.now c.args.bytes.now c.index.result.now (Err c.in-Err.fault) c.serves_none.result (λ t. core_step_of c.serves_none.new.core t) c.requires.place c.index.ensures (search rules) (search rules) c.serves_none.ensures

@@ -4,4 +4,4 @@ use Rattle.trace_ends.proofs.Served.{hangs_is}
 use Rattle.trace_ends.proofs.world_core.Core.hangs.Goals as goal
 
 pub returns : goal.returns
-returns c = hangs_is (core_of c.args.self.now) c.in-Some.place c.args.session c.index.result.now c.loses.result (λ t. core_step_of c.loses.new.core t) (search rules) (search rules) (search rules) (search rules) c.loses.ensures
+returns c = hangs_is (core_of c.args.self.now) c.in-Some.place c.args.session c.index.result.now c.loses.result (λ t. core_step_of c.loses.new.core t) c.in-Some.ensures.0 (search rules) c.index.ensures (search rules) c.loses.ensures
