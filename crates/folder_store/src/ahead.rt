@@ -1,16 +1,18 @@
 //! Long contents, which threads read ahead of the one that makes records of all files. What isn't read here, for
 //! whatever reason, is read by that one, through the store's folder, which tells why it can't be.
 
-ghost use Rattle.std.specs.Prelude.{◌≡◌, Some, length, true, IfOk, IfSome};
-ghost use Rattle.log_store.specs.Names.{same_which};
+ghost use Rattle.std.specs.Prelude.{◌≡◌, Some, length, IfOk, IfSome};
+ghost use Rattle.folder_store.specs.Folder.{content_in};
 
-use log_store::which::{Which, is_same};
+use crate::format::content_of;
+use log_store::which::Which;
 use std::alloc::{AllocError, Global};
 use std::fs::File;
 use std::io::{Error, ErrorKind, Read};
 use std::rt::Files;
 use std::thread::Threads;
 use std::{fs, io, thread};
+use store::record::ContentRecord;
 use system_files::disk_files::READ_MOST;
 use system_files::naming::put_name;
 
@@ -24,62 +26,71 @@ const READERS: usize = 16;
 /// `system_files`).
 const LONG: u64 = 64 << 10;
 
-/// A long content's file, until it is read, and its bytes from then on.
+/// A long content's file, until it is read, and what it contains from then on.
 pub(crate) struct LongContent {
-    which: Which,
+    id: u64,
     file: Option<File>,
-    len: u64,
-    bytes: Option<Vec<u8>>,
+    /// How many bytes are in it behind the version.
+    left: u64,
+    content: Option<ContentRecord>,
 }
 
 // By hand: docs/proving/dropping.md.
 impl Drop for LongContent {
     fn drop(self) {
         let LongContent {
-            which: _which,
+            id: _id,
             file,
-            len: _len,
-            bytes,
+            left: _left,
+            content,
         } = self;
         drop(file);
-        drop(bytes);
+        drop(content);
     }
 }
 
 impl LongContent {
     /// Reads the file, and closes it. One that can't be read stays unread.
     fn read(&mut self, alloc: Global)
-        ensures whole { IfSome self.new.bytes (λ bytes. length bytes.items ≡ self.old.len) }
-        ensures kept { (self.new.which ≡ self.old.which) × (self.new.len ≡ self.old.len) }
+        ensures whole { IfSome self.new.content (λ content. (content.id ≡ self.old.id) × (length content.bytes ≡ self.old.left)) }
+        ensures kept { (self.new.id ≡ self.old.id) × (self.new.left ≡ self.old.left) }
     {
-        self.bytes = match self.file.take() {
-            Some(mut file) => bytes_of(&mut file, alloc, self.len).ok(),
+        self.content = match self.file.take() {
+            Some(mut file) => content_from(&mut file, alloc, self.id, self.left).ok(),
             None => None,
         };
     }
 
-    /// Its bytes, if they were read and it is this record.
-    fn take(&mut self, which: Which) -> Option<Vec<u8>>
-        ensures { IfSome result (λ bytes. (same_which self.old.which which ≡ true) × (self.old.bytes ≡ Some bytes)) }
+    /// What it contains, if that was read and it is this file's.
+    fn take(&mut self, id: u64) -> Option<ContentRecord>
+        ensures { IfSome result (λ content. (content.id ≡ id) × (self.old.content ≡ Some content)) }
     {
-        if is_same(self.which, which) {
-            self.bytes.take()
-        } else {
-            None
+        match &self.content {
+            Some(content) if content.id == id => self.content.take(),
+            _ => None,
         }
     }
 }
 
-/// The bytes of an open file, unless it has another length by now.
-fn bytes_of(file: &mut File, alloc: Global, len: u64) -> io::Result<Vec<u8>>
-    ensures { IfOk result (λ bytes. length bytes.items ≡ len) }
+/// The content that an open file says, unless this has another length by now. The version is read apart, so that no
+/// byte behind it has to be moved.
+fn content_from<F: Read>(
+    file: &mut F,
+    alloc: Global,
+    id: u64,
+    left: u64,
+) -> io::Result<ContentRecord>
+    ensures whole { IfOk result (λ content. (content.id ≡ id) × (length content.bytes ≡ left)) }
+    ensures bytes { IfOk result (λ content. IfSome (F.remaining file.old) (λ bytes. content_in id bytes ≡ Some content)) }
 {
-    let mut bytes = Vec::with_capacity(alloc, len as usize)?;
+    let mut version = [0u8; 8];
+    file.read_exact(&mut version)?;
+    let mut bytes = Vec::with_capacity(alloc, left as usize)?;
     let count = file.read_to_end(&mut bytes)?;
-    if count as u64 != len {
+    if count as u64 != left {
         return Err(Error::from(ErrorKind::UnexpectedEof));
     }
-    Ok(bytes)
+    Ok(content_of(alloc, id, u64::from_be_bytes(version), bytes)?)
 }
 
 /// Opens a record's file in a folder, if it is a long content's.
@@ -89,7 +100,7 @@ fn open_long<R: Files<File = File>>(
     folder: &str,
     which: Which,
 ) -> io::Result<Option<LongContent>> {
-    let Which::Content(_id) = which else {
+    let Which::Content(id) = which else {
         return Ok(None);
     };
     let mut path = String::from_str(alloc, folder)?;
@@ -101,10 +112,10 @@ fn open_long<R: Files<File = File>>(
     }
     let file = fs::open(rt, path.as_str())?;
     Ok(Some(LongContent {
-        which,
+        id,
         file: Some(file),
-        len,
-        bytes: None,
+        left: len - 8,
+        content: None,
     }))
 }
 
@@ -142,11 +153,16 @@ pub(crate) fn read_long<H: Threads + Sync, R: Files<File = File>>(
     Ok(found)
 }
 
-/// The bytes of this record, if they are among those that were read.
-pub(crate) fn take_bytes(long: &mut [LongContent], which: Which) -> Option<Vec<u8>> {
+/// The content that this record is, if it is among those that were read.
+pub(crate) fn take_content(long: &mut [LongContent], which: Which) -> Option<ContentRecord>
+    ensures { IfSome result (λ content. which ≡ Which.Content content.id) }
+{
+    let Which::Content(id) = which else {
+        return None;
+    };
     for one in long.iter_mut() {
-        if let Some(bytes) = one.take(which) {
-            return Some(bytes);
+        if let Some(content) = one.take(id) {
+            return Some(content);
         }
     }
     None

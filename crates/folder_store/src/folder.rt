@@ -4,7 +4,7 @@
 
 ghost use Rattle.std.specs.Prelude.{◌≡◌, None};
 
-use crate::ahead::{LongContent, OPEN_MOST, read_long, take_bytes};
+use crate::ahead::{LongContent, OPEN_MOST, read_long, take_content};
 use crate::commit::FolderSyncs;
 use crate::edits::apply_change;
 use crate::found::record_in;
@@ -237,7 +237,7 @@ impl<R: Files<File = File> + AllocGlobal + Eprint + Clone + Drop> LoadedFolder<R
         self.read(rt, these, long, records)
     }
 
-    /// Adds these of its records. The bytes of some were read already.
+    /// Adds these of its records. Some contents were read already.
     fn read(
         &mut self,
         rt: &R,
@@ -247,7 +247,10 @@ impl<R: Files<File = File> + AllocGlobal + Eprint + Clone + Drop> LoadedFolder<R
     ) -> Result<(), StoreError> {
         let mut long = long;
         for which in these {
-            let record = self.read_record(rt, *which, take_bytes(long.as_mut_slice(), *which))?;
+            let record = match take_content(long.as_mut_slice(), *which) {
+                Some(content) => Kept::Content(content),
+                None => self.read_record(rt, *which)?,
+            };
             match records.push(record) {
                 Ok(()) => {}
                 Err(_want) => return Err(StoreError::Memory),
@@ -256,19 +259,10 @@ impl<R: Files<File = File> + AllocGlobal + Eprint + Clone + Drop> LoadedFolder<R
         Ok(())
     }
 
-    /// A record that it has, of which these bytes were read already, if any were.
-    fn read_record(
-        &mut self,
-        rt: &R,
-        which: Which,
-        came: Option<Vec<u8>>,
-    ) -> Result<Kept, StoreError> {
-        let bytes = match came {
-            Some(bytes) => bytes,
-            None => match self.store.read(which)? {
-                Some(bytes) => bytes,
-                None => return Err(StoreError::Failed),
-            },
+    /// A record that it has.
+    fn read_record(&mut self, rt: &R, which: Which) -> Result<Kept, StoreError> {
+        let Some(bytes) = self.store.read(which)? else {
+            return Err(StoreError::Failed);
         };
         match record_in(rt.alloc(), which, bytes)? {
             Some(record) => Ok(record),

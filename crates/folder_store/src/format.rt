@@ -113,6 +113,21 @@ fn forget_word(bytes: &mut Vec<u8>)
     bytes.truncate(left);
 }
 
+/// The content of this version and these bytes. The one error is running out of memory.
+pub(crate) fn content_of(
+    alloc: Global,
+    id: u64,
+    version: u64,
+    bytes: Vec<u8>,
+) -> Result<ContentRecord, AllocError>
+    ensures { IfOk result (λ content. (content.id ≡ id) × (content.version ≡ version) × (content.bytes ≡ bytes.items)) }
+{
+    match SharedBytes::new(alloc, Items::from_vec(bytes)) {
+        Ok(bytes) => Ok(ContentRecord { id, version, bytes }),
+        Err(_) => Err(AllocError),
+    }
+}
+
 /// The content of which these are the bytes. The one error is running out of memory.
 pub fn content_in(
     alloc: Global,
@@ -127,8 +142,5 @@ pub fn content_in(
     let mut bytes = bytes;
     let version = word(&bytes);
     forget_word(&mut bytes);
-    match SharedBytes::new(alloc, Items::from_vec(bytes)) {
-        Ok(bytes) => Ok(Some(ContentRecord { id, version, bytes })),
-        Err(_) => Err(AllocError),
-    }
+    Ok(Some(content_of(alloc, id, version, bytes)?))
 }
