@@ -1,9 +1,9 @@
 -- Items that are read one behind the other.
-use Rattle.std.proofs.Common.{◌≡◌, ℕ, zero, suc, ◌+◌, ◌-◌, ◌^◌, ◌<◌, ◌≤◌, List, [], ◌∷◌, ◌++◌, length, Bool, true, false, Option, Some, None, Result, Ok, Err, refl, sym, ap, subst, ◌∙◌, append_assoc, arith, length-append}
+use Rattle.std.proofs.Common.{◌≡◌, ℕ, zero, suc, ◌+◌, ◌-◌, ◌^◌, ◌<◌, ◌≤◌, List, [], ◌∷◌, ◌++◌, length, Bool, true, false, Option, Some, None, Result, Ok, Err, refl, sym, ap, ◌∙◌, append_assoc, arith, length-append}
 use Rattle.std.specs.Prelude.{if◌then◌else◌, ◌==◌}
 use Rattle.std.specs.Int.{w32, to_be_bytes}
 use Rattle.std.specs.List.{All}
-use Rattle.std.proofs.lemmas.Bool.{eqb-true, cases_eq}
+use Rattle.std.proofs.lemmas.Bool.{eqb-true}
 use Rattle.std.proofs.lemmas.Bool.Decides.{nat_tests}
 use Rattle.std.proofs.lemmas.List.{append-nil}
 use Rattle.std.proofs.lemmas.List.Elements.{All-nil, All-cons}
@@ -90,14 +90,14 @@ item_comes i item j fits e =
 -- ---- all items
 
 -- where none is read, none stands
-none_stands : (i : Input) → item_at i ≡ None → HasNone i.rest
+pub none_stands : (i : Input) → item_at i ≡ None → HasNone i.rest
 none_stands i none item rest is at =
     let again : item_at i ≡ Some (item, behind i.at (opaque_spell item) rest) = ap (λ (t : List ℕ). item_at (record { at = i.at; rest = t })) at ∙ item_again item i.at rest is in
     let made : List ℕ × Input = (item, behind i.at (opaque_spell item) rest) in
     let no : None ≡ Some made = sym none ∙ again in
     absurd cc
 
-one_more : (i : Input) (item : List ℕ) (j : Input) (xs : List (List ℕ)) → Comes i item j → AreItems j.rest xs → AreItems i.rest (item ∷ xs)
+pub one_more : (i : Input) (item : List ℕ) (j : Input) (xs : List (List ℕ)) → Comes i item j → AreItems j.rest xs → AreItems i.rest (item ∷ xs)
 one_more i item j xs c h = record {
   each = All-cons IsItem item xs c.is h.each;
   rest = h.rest;

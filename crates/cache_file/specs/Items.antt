@@ -1,6 +1,6 @@
 -- The items that a cache file holds: each is some bytes, and no more than a chunk has, as an opaque of XDR: behind their number, with
 -- zeros up to a multiple of four (RFC 4506, section 4.10).
-use Rattle.std.specs.Prelude.{◌≡◌, ◌⊎◌, ℕ, zero, suc, ◌≤◌, List, [], ◌∷◌, ◌++◌, length, Bool, ◌||◌, Option, Some, None, is_some, Result, Ok, Err, ◌==◌, if◌then◌else◌}
+use Rattle.std.specs.Prelude.{◌≡◌, ℕ, zero, suc, ◌≤◌, List, [], ◌∷◌, ◌++◌, length, Bool, Option, Some, None, Result, Ok, Err, ◌==◌, if◌then◌else◌}
 use Rattle.std.specs.List.{All, flat_map}
 use Rattle.limits.specs.declared.TheConstants.{CHUNK_MOST}
 use Rattle.xdr_codec.specs.Format.{Input}
@@ -51,10 +51,10 @@ items bytes = items_from (length bytes) (record { at = 0; rest = bytes })
 
 -- ---- what is taken for a cache file
 
--- The format has no mark of its own: nothing stands in it, or a whole item stands at its front.
+-- The format has no mark of its own: the whole of it is items, as what is saved always is. An empty file has none of them.
 abbrev pub IsCache : List ℕ → Type 0
-IsCache bytes = (bytes ≡ []) ⊎ ((item : List ℕ) × (rest : List ℕ) × IsItem item × (bytes ≡ opaque_spell item ++ rest))
+IsCache bytes = (xs : List (List ℕ)) × All IsItem xs × (bytes ≡ spelled xs)
 
--- the same, as it is found
+-- the same, as it is found: the items in front take all of the bytes
 abbrev pub is_cache : List ℕ → Bool
-is_cache bytes = length bytes == 0 || is_some (item_at (record { at = 0; rest = bytes }))
+is_cache bytes = length (spelled (items bytes)) == length bytes

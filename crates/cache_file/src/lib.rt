@@ -28,12 +28,12 @@ pub fn load(alloc: Global, bytes: &[u8]) -> Result<Vec<Bytes>, AllocError>
     loading::items(alloc, &mut reader, bytes.len())
 }
 
-/// Whether bytes are taken for a cache file's. The format has no mark of its own: there are none, or a whole
-/// item stands in front. So whoever replaces a cache file can leave alone what is none. It takes no memory.
+/// Whether bytes are taken for a cache file's. The format has no mark of its own: the whole of them is items,
+/// or there are none. So whoever replaces a cache file can leave alone what is none. It takes no memory.
 pub fn is_cache(bytes: &[u8]) -> bool
     ensures { result ≡ is_cache bytes.now }
 {
-    bytes.is_empty() || looking::has_item(bytes)
+    looking::are_items(bytes)
 }
 
 /// What is kept in a cache file of a client's cache: the chunks of the contents that are kept, the most
@@ -49,8 +49,8 @@ pub fn save(alloc: Global, cache: &Cache) -> Result<Bytes, AllocError>
     Ok(saving.done())
 }
 
-/// What `items` finds is the longest list of whole items that begins the bytes, and no other list is. What is
-/// taken for a cache file begins with a whole item, or is empty.
+/// What `items` finds is the longest list of whole items that begins the bytes, and no other list is. Of what is
+/// taken for a cache file the whole is items, and nothing else is taken for one.
 pub fn items_law()
     ensures found { (bytes : List ℕ) → IsBytes bytes → AreItems bytes (items bytes) }
     ensures only { (bytes : List ℕ) (xs : List (List ℕ)) → IsBytes bytes → AreItems bytes xs → xs ≡ items bytes }

@@ -22,7 +22,7 @@ pub enum Note<'a> {
     NotRegular {
         name: &'a str,
     },
-    #[error("{name} isn't read as a cache file, and stays as it is (name another one, or remove it)")]
+    #[error("{name} isn't taken for a cache file, and stays as it is (name another one, or remove it)")]
     Left {
         name: &'a str,
     },
