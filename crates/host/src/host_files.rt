@@ -91,6 +91,15 @@ fn read_file<R: HostDisk + Eprint>(rt: &R, alloc: Global, name: &str) -> Result<
     }
 }
 
+/// Whether a file may be put under a name: a regular one stands there, or nothing does. A link is what it leads
+/// to, and one to nothing is something.
+fn takes_file<R: HostDisk>(rt: &R, name: &str) -> bool {
+    match fs::metadata(rt, name) {
+        Ok(facts) => facts.is_file(),
+        Err(_) => rt.symlink_metadata(name).is_err(),
+    }
+}
+
 /// Writes a file beside the one of the name, and puts it in its place.
 fn write_file<R: HostDisk>(rt: &R, beside: &str, name: &str, bytes: &[u8]) -> io::Result<()> {
     let mut file = fs::create(rt, beside)?;
@@ -127,6 +136,11 @@ impl<R: HostDisk + Eprint> Files for HostFiles<R> {
     }
 
     fn put(&mut self, alloc: Global, name: &str, bytes: &[u8]) -> Result<(), GiveError> {
+        if !takes_file(&self.rt, name) {
+            tell(&self.rt, &Note::NotRegular { name });
+            self.faults = one_more(self.faults);
+            return Err(GiveError::Failed);
+        }
         let mark = self.mark;
         let beside = format!(in alloc; "~{mark}")?;
         match write_file(&self.rt, beside.as_str(), name, bytes) {
