@@ -284,7 +284,7 @@ impl Slots {
     }
 
     /// What was lent is back, and is lent anew with what came since, where that is much. It is a copy, to be
-    /// hashed where nobody waits for these slots. What comes back of an earlier fetch is dropped.
+    /// hashed where nobody waits for these slots. What comes back with another length than was lent is dropped.
     pub fn lend(&mut self, alloc: Global, back: Option<Ahead>, size: u64) -> Option<Ahead>
         ensures same { self.new ≡ self.old }
         ensures bounds { IfSome result (λ lent. (1048576 ≤ length lent) × (length lent + 2097152 ≤ size)) }
