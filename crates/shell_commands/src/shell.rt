@@ -145,20 +145,22 @@ fn move_named<R: Remote>(
     }
 }
 
-/// A word for a path of the host without `./` in front, which says nothing.
+/// A word for a path of the host without `./` in front, which says nothing; alone it is `.`.
 fn plain(word: &str) -> &str {
     match word.strip_prefix("./") {
-        Some(rest) if !rest.is_empty() && !rest.starts_with("/") => rest,
+        Some(rest) if rest.is_empty() => ".",
+        Some(rest) if !rest.starts_with("/") => rest,
         _ => word,
     }
 }
 
 /// The path of the host that a word names in a folder, as it is shown.
 fn local_of(alloc: Global, folder: &str, word: &str) -> Result<LocalPath, AllocError> {
+    let word = plain(word);
     if word == "." {
         LocalPath::copy_of(alloc, folder)
     } else {
-        LocalPath::of(alloc, folder, plain(word))
+        LocalPath::of(alloc, folder, word)
     }
 }
 
