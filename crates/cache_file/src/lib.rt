@@ -49,8 +49,8 @@ pub fn save(alloc: Global, cache: &Cache) -> Result<Bytes, AllocError>
     Ok(saving.done())
 }
 
-/// What `items` finds is the longest list of whole items that begins the bytes, and no other list is. Of what is
-/// taken for a cache file the whole is items, and nothing else is taken for one.
+/// What `items` finds is the longest list of whole items that begins the bytes, and no other list is. What is
+/// items to its end is taken for a cache file, and nothing else.
 pub fn items_law()
     ensures found { (bytes : List ℕ) → IsBytes bytes → AreItems bytes (items bytes) }
     ensures only { (bytes : List ℕ) (xs : List (List ℕ)) → IsBytes bytes → AreItems bytes xs → xs ≡ items bytes }
