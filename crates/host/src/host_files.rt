@@ -4,7 +4,7 @@ ghost use Rattle.std.specs.Prelude.{◌≡◌, ℕ, ◌≤◌, ◌<◌, length, 
 ghost use Rattle.limits.specs.declared.TheConstants.{FILE_MOST};
 ghost use Rattle.links.specs.declared.files.FilesError.TheVariants as errors;
 
-use crate::notes::{Note, tell};
+use crate::notes::{FileNote, tell};
 use lb_base::faults::one_more;
 use lb_base::items::{Bytes, Items};
 use lb_base::sink::GiveError;
@@ -45,7 +45,7 @@ impl<R> HostFiles<R> {
 fn open_regular<R: HostDisk + Eprint>(rt: &R, name: &str) -> Result<R::File, Failed> {
     let opened = match fs::metadata(rt, name) {
         Ok(facts) if !facts.is_file() => {
-            tell(rt, &Note::NotRegular { name });
+            tell(rt, &FileNote::NotRegular { name });
             return Err(Failed);
         }
         Ok(_) => fs::open(rt, name),
@@ -54,7 +54,7 @@ fn open_regular<R: HostDisk + Eprint>(rt: &R, name: &str) -> Result<R::File, Fai
     match opened {
         Ok(file) => Ok(file),
         Err(why) => {
-            tell(rt, &Note::Read { name, why });
+            tell(rt, &FileNote::Read { name, why });
             Err(Failed)
         }
     }
@@ -132,7 +132,7 @@ impl<R: HostDisk + Eprint> Files for HostFiles<R> {
     }
 
     fn leave(&self, name: &str) {
-        tell(&self.rt, &Note::Left { name });
+        tell(&self.rt, &FileNote::Left { name });
     }
 
     fn put(&mut self, alloc: Global, name: &str, bytes: &[u8]) -> Result<(), GiveError> {
@@ -146,7 +146,7 @@ impl<R: HostDisk + Eprint> Files for HostFiles<R> {
         match write_file(&self.rt, beside.as_str(), name, bytes) {
             Ok(()) => Ok(()),
             Err(why) => {
-                tell(&self.rt, &Note::Written { name, why });
+                tell(&self.rt, &FileNote::Written { name, why });
                 let _gone = fs::remove_file(&self.rt, beside.as_str());
                 self.faults = one_more(self.faults);
                 Err(GiveError::Failed)

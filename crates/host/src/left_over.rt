@@ -1,6 +1,6 @@
 //! The files that fetches which were stopped left in a folder: which of them go.
 
-use crate::notes::{Note, tell};
+use crate::notes::{FileNote, tell};
 use shell_words::local::text_of;
 use shell_words::quoting::quoted;
 use shell_words::temporary::writer_of;
@@ -60,7 +60,7 @@ fn is_left<R: HostDisk + HostTime>(
 fn tell_gone<R: Eprint>(rt: &R, alloc: Global, path: &str) {
     if let Ok(shown) = quoted(alloc, path.as_bytes()) {
         if let Some(path) = text_of(shown.as_slice()) {
-            tell(rt, &Note::LeftOver { path });
+            tell(rt, &FileNote::LeftOver { path });
         }
     }
 }

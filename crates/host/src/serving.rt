@@ -2,7 +2,7 @@
 //! files there are, and the network when that is. And where it is, for the network's bell; and for how long
 //! leases are granted, which the store waits for and the network notes.
 
-use crate::notes::{Note, tell};
+use crate::notes::{RunNote, tell};
 use crate::terms::Term;
 use std::alloc::{AllocError, Global};
 use std::rt::{Clock as HostTime, Files as HostDisk};
@@ -56,6 +56,6 @@ impl Serving {
         self.port.store(u64::from(port), Ordering::SeqCst);
         let place = self.term.place();
         let files = self.files.load(Ordering::SeqCst);
-        tell(rt, &Note::Serving { place, port, files });
+        tell(rt, &RunNote::Serving { place, port, files });
     }
 }

@@ -3,7 +3,7 @@
 
 ghost use Rattle.std.specs.Prelude.{◌≡◌};
 
-use crate::notes::{Note, tell};
+use crate::notes::{StreamNote, tell};
 use std::io;
 use std::io::{ErrorKind, Read, Write};
 
@@ -29,7 +29,7 @@ impl<R: Eprint, I: Read> Read for ToldReader<R, I> {
     fn read(&mut self, buf: &mut [u8]) -> io::Result<usize> {
         match self.input.read(buf) {
             Err(why) if why.kind() != ErrorKind::Interrupted => {
-                tell(&self.rt, &Note::Input(why));
+                tell(&self.rt, &StreamNote::Input(why));
                 Err(why)
             }
             other => other,
@@ -59,7 +59,7 @@ impl<R: Eprint, O: Write> Write for ToldWriter<R, O> {
     fn write(&mut self, buf: &[u8]) -> io::Result<usize> {
         match self.output.write(buf) {
             Err(why) if why.kind() != ErrorKind::Interrupted => {
-                tell(&self.rt, &Note::Output(why));
+                tell(&self.rt, &StreamNote::Output(why));
                 Err(why)
             }
             other => other,

@@ -5,7 +5,7 @@ ghost use Rattle.std.specs.Prelude.{◌≡◌, ℕ, ◌+◌, ◌-◌, ◌^◌, �
 ghost use Rattle.lb_base.specs.Causes.{Rose};
 ghost use Rattle.lb_base.specs.declared.sink.GiveError.TheVariants as errors;
 
-use crate::notes::{Note, tell};
+use crate::notes::{PortNote, tell};
 use crate::serving::Serving;
 use lb_base::faults::one_more;
 use lb_base::sink::GiveError;
@@ -41,14 +41,14 @@ impl<R: Eprint> Peer<R> {
     fn lose(&self, why: io::Error) {
         if !self.is_over.swap(true, Ordering::SeqCst) {
             let port = self.port;
-            tell(&self.rt, &Note::Lost { port, why });
+            tell(&self.rt, &PortNote::Lost { port, why });
         }
     }
 
     /// The peer ended the connection.
     fn end(&self) {
         if !self.is_over.swap(true, Ordering::SeqCst) {
-            tell(&self.rt, &Note::Ended { port: self.port });
+            tell(&self.rt, &PortNote::Ended { port: self.port });
         }
     }
 
@@ -197,7 +197,7 @@ fn here(port: u16) -> SocketAddr {
 pub fn tell_taken<R: Net<Listener = TcpListener, Stream = TcpStream> + Eprint>(rt: &R, port: u16) {
     match TcpListener::bind(rt, here(port)) {
         Ok(listener) => drop(listener),
-        Err(why) => tell(rt, &Note::Listen { port, why }),
+        Err(why) => tell(rt, &PortNote::Listen { port, why }),
     }
 }
 
@@ -314,7 +314,7 @@ impl<R: Net<Listener = TcpListener, Stream = TcpStream> + HostDisk + Eprint> Tcp
                 Err(Failed)
             }
             Err(why) => {
-                tell(&self.rt, &Note::Listen { port, why });
+                tell(&self.rt, &PortNote::Listen { port, why });
                 Err(Failed)
             }
         }
@@ -380,7 +380,7 @@ impl<
         match self.dialled(port) {
             Ok(link) => Ok(link),
             Err(why) => {
-                tell(&self.rt, &Note::Dial { port, why });
+                tell(&self.rt, &PortNote::Dial { port, why });
                 self.faults = one_more(self.faults);
                 Err(Failed)
             }

@@ -6,7 +6,7 @@
 ghost use Rattle.std.specs.Prelude.{◌≡◌, ◌≤◌, ◌-◌, IfSome};
 ghost use Rattle.limits.specs.declared.TheConstants.{TERM_MOST};
 
-use crate::notes::{Note, tell};
+use crate::notes::{FileNote, RunNote, tell};
 use command_text::fields::number;
 use limits::TERM_MOST;
 use std::alloc::{AllocError, Global};
@@ -140,7 +140,7 @@ impl Term {
             let place = self.place.as_str();
             tell(
                 rt,
-                &Note::Waiting {
+                &RunNote::Waiting {
                     place,
                     more,
                     before,
@@ -165,7 +165,7 @@ impl Term {
         match write_whole(rt, self.place(), beside, path, self.text.as_bytes()) {
             Ok(()) => true,
             Err(why) => {
-                tell(rt, &Note::Written { name: path, why });
+                tell(rt, &FileNote::Written { name: path, why });
                 let _gone = fs::remove_file(rt, beside);
                 false
             }

@@ -5,7 +5,7 @@ use crate::person::{Person, words_file};
 use exit_status::shell_end::ShellEnd;
 use host::dialler::TcpDialler;
 use host::host_folder::HostFolders;
-use host::notes::{Note, tell};
+use host::notes::{PortNote, RunNote, StreamNote, tell};
 use host::screen::HostScreen;
 use host::streams::{ToldReader, ToldWriter};
 use host::time::{HostClock, HostPause};
@@ -38,8 +38,8 @@ pub(crate) fn run_front<H: Threads + Wait + Sync>(
         }
     };
     match end {
-        ShellEnd::Network => tell(&rt, &Note::Unreached { port }),
-        ShellEnd::Memory => tell(&rt, &Note::Memory),
+        ShellEnd::Network => tell(&rt, &PortNote::Unreached { port }),
+        ShellEnd::Memory => tell(&rt, &RunNote::Memory),
         _ => {}
     }
     ExitCode::from(end.code())
@@ -80,7 +80,7 @@ pub(crate) fn share_help(rt: &HostRuntime) -> ExitCode {
     match print!(rt; "{SHARE}") {
         Ok(()) => ExitCode::from(ShellEnd::Done.code()),
         Err(why) => {
-            tell(rt, &Note::Output(why));
+            tell(rt, &StreamNote::Output(why));
             ExitCode::from(ShellEnd::WriteFault.code())
         }
     }

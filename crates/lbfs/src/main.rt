@@ -16,7 +16,7 @@ use crate::person::shared_at;
 use exit_status::status::Status;
 use folder_store::folder::FolderStore;
 use host::host_files::HostFiles;
-use host::notes::{Note, tell};
+use host::notes::{RunNote, tell};
 use host::serving::Serving;
 use host::streams::{ToldReader, ToldWriter};
 use host::tcp::{TcpNetwork, tell_taken};
@@ -109,8 +109,8 @@ fn tell_end(rt: &HostRuntime, words: &[String], options: &Option<ServeOptions>, 
                 let _told = eprint!(rt; "{text}");
             }
         }
-        Status::Memory => tell(rt, &Note::Memory),
-        Status::NoThread => tell(rt, &Note::NoThread),
+        Status::Memory => tell(rt, &RunNote::Memory),
+        Status::NoThread => tell(rt, &RunNote::NoThread),
         Status::Store => {
             if let Some(options) = options {
                 tell_store(rt, options);
@@ -149,7 +149,7 @@ fn load_ahead<H: Threads + Sync>(
         store.leave_unflushed();
     }
     let place = options.store.as_str();
-    tell(rt, &Note::Loading { place });
+    tell(rt, &RunNote::Loading { place });
     store.load_ahead(handle, rt.alloc(), place);
 }
 
@@ -165,7 +165,7 @@ fn clock_for(rt: HostRuntime, serves: bool) -> HostClock<HostRuntime> {
 
 /// The end of a program whose memory ran out before it ran.
 fn starved(rt: &HostRuntime) -> ExitCode {
-    tell(rt, &Note::Memory);
+    tell(rt, &RunNote::Memory);
     ExitCode::from(Status::Memory.code())
 }
 
