@@ -137,7 +137,7 @@ impl<R: HostDisk + Eprint> Files for HostFiles<R> {
 
     fn put(&mut self, alloc: Global, name: &str, bytes: &[u8]) -> Result<(), GiveError> {
         if !takes_file(&self.rt, name) {
-            tell(&self.rt, &Note::NotRegular { name });
+            tell(&self.rt, &FileNote::NotRegular { name });
             self.faults = one_more(self.faults);
             return Err(GiveError::Failed);
         }

@@ -72,20 +72,31 @@ pub enum RunNote<'a> {
     NoThread,
 }
 
-/// A `Debug` by the `Display`: a derived one would be as long as all these words, and nobody prints it.
-macro_rules! debug_as_shown {
-    ($($note:ty),*) => {
-        $(
-            impl Debug for $note {
-                fn fmt<W: fmt::Write>(&self, f: &mut Formatter<W>) -> fmt::Result {
-                    Display::fmt(self, f)
-                }
-            }
-        )*
-    };
+// Each `Debug` is by the `Display`: a derived one would be as long as all these words, and nobody prints it.
+
+impl Debug for StreamNote {
+    fn fmt<W: fmt::Write>(&self, f: &mut Formatter<W>) -> fmt::Result {
+        Display::fmt(self, f)
+    }
 }
 
-debug_as_shown!(StreamNote, FileNote<'_>, PortNote, RunNote<'_>);
+impl Debug for FileNote<'_> {
+    fn fmt<W: fmt::Write>(&self, f: &mut Formatter<W>) -> fmt::Result {
+        Display::fmt(self, f)
+    }
+}
+
+impl Debug for PortNote {
+    fn fmt<W: fmt::Write>(&self, f: &mut Formatter<W>) -> fmt::Result {
+        Display::fmt(self, f)
+    }
+}
+
+impl Debug for RunNote<'_> {
+    fn fmt<W: fmt::Write>(&self, f: &mut Formatter<W>) -> fmt::Result {
+        Display::fmt(self, f)
+    }
+}
 
 /// Tells it on standard error. Where that can't be written either nobody is there to be told.
 pub fn tell<R: Eprint, D: Display>(rt: &R, what: &D) {
