@@ -28,6 +28,7 @@ use Rattle.shell_link.specs.Hearing.{nothing_heard, Heeds, listed_as}
 use Rattle.shell_link.specs.declared.hearing.Heard.{Heard}
 use Rattle.shell_walks.specs.declared.remote.Answer.{Answer}
 use Rattle.shell_walks.specs.declared.remote.Answer.TheVariants as answer
+use Rattle.shell_walks.specs.declared.remote.Why.{Why}
 use Rattle.shell_walks.specs.declared.remote.Why.TheVariants as why
 
 -- ---- how a command ended, as a shell is told it
@@ -121,11 +122,44 @@ rereads (command.Open file) = true
 rereads (command.Rewrite file) = true
 rereads c = false
 
--- A connection may be joined first. Where it was lost meanwhile, what changes nothing is asked once more.
-pub data Asks (old : State) (c : Command) : Answer → State → Type 0 where
-  at_once : (a : Answer) (new : State) → Once old c a new → Asks old c a new
-  joined_first : (a : Answer) (new : State) → Once (joined old) c a new → Asks old c a new
-  again : (s : State) (b a : Answer) (new : State) → rereads c ≡ true → is_lost b ≡ true → Asks old c b s → Once (joined s) c a new → Asks old c a new
+-- a command on an open file, for which no server is asked
+abbrev pub is_local : Command → Bool
+is_local (command.Write file offset content) = true
+is_local (command.Trunc file size) = true
+is_local (command.Read file offset count) = true
+is_local (command.Abandon file) = true
+is_local c = false
+
+-- a look at the root, by which a connection is tried
+abbrev pub looks : Command
+looks = command.Named path.LookRoot
+
+-- Why nothing else is asked for, by what the look came to: this connection is lost too, so no server is behind it; or what answers is none.
+abbrev pub stops : Answer → Option Why
+stops (answer.Failed why.Lost) = Some why.NoLink
+stops (answer.Failed (why.BadPeer n)) = Some (why.BadPeer n)
+stops a = None
+
+abbrev pub AsksUnless : Option Why → State → Command → Answer → State → Type 0
+AsksUnless (Some w) s c a new = (a ≡ answer.Failed w) × (new ≡ s)
+AsksUnless None s c a new = Once s c a new
+
+pub record Tries (old : State) (c : Command) (a : Answer) (new : State) : Type 0 where
+  pub looked : Answer
+  pub tried : State
+  pub look : Once old looks looked tried
+  pub asks : AsksUnless (stops looked) tried c a new
+
+-- on a connection that was joined just now: one in the place of another, which was lost, is tried
+abbrev pub AsksJoined : (was_joined : Bool) → State → Command → Answer → State → Type 0
+AsksJoined true = Tries
+AsksJoined false = Once
+
+-- Where no connection is there one is joined first, or none can be. Where it was lost meanwhile, what changes nothing is asked once more. Behind it, whether one was joined so far.
+pub data Asks (was_joined : Bool) (old : State) (c : Command) : Answer → State → (is_joined : Bool) → Type 0 where
+  at_once : (a : Answer) (new : State) → Once old c a new → Asks was_joined old c a new was_joined
+  joined_first : (a : Answer) (new : State) → is_local c ≡ false → AsksJoined was_joined (joined old) c a new → Asks was_joined old c a new true
+  again : (s : State) (b a : Answer) (new : State) (is_joined : Bool) → rereads c ≡ true → is_lost b ≡ true → Asks was_joined old c b s is_joined → Tries (joined s) c a new → Asks was_joined old c a new true
 
 -- ---- hints, which nobody trusts
 
@@ -153,11 +187,11 @@ abbrev pub said_of : (changes_nothing : Bool) → Answer → Answer
 said_of b a = said_if (b && is_lost a) a
 
 -- a command, and before it what is kept is no more than one file may have, and the file that was closed last may be learned
-pub record AsksHinted (old : State) (c : Command) (a : Answer) (new : State) : Type 0 where
+pub record AsksHinted (was_joined : Bool) (old : State) (c : Command) (a : Answer) (new : State) (is_joined : Bool) : Type 0 where
   pub hinted : State
   pub hints : MayLearn (kept_within FILE_MOST old) hinted
   pub heard : Answer
-  pub asks : Asks hinted c heard new
+  pub asks : Asks was_joined hinted c heard new is_joined
   pub told : a ≡ said_of (rereads c) heard
 
 -- ---- leases, of which a shell wants none

@@ -1,7 +1,7 @@
 //! What a shell makes of how a command ended, and which commands may be asked again: `specs/Asking.antt`.
 
 ghost use Rattle.std.specs.Prelude.{◌≡◌, true, IfOk, IfSome};
-ghost use Rattle.shell_link.specs.Asking.{fault_number, is_directory, done_as, answer_of, makes, is_lost, said_of, reads, rereads};
+ghost use Rattle.shell_link.specs.Asking.{fault_number, is_directory, done_as, answer_of, makes, is_lost, is_local, said_of, stops, reads, rereads};
 
 use crate::hearing::{Heard, listed_as};
 use client_state::step::{BadPeer, Outcome};
@@ -88,6 +88,27 @@ pub(crate) fn is_lost(answer: &Answer) -> bool
     ensures { result ≡ is_lost answer.now }
 {
     matches!(answer, Answer::Failed(Why::Lost))
+}
+
+/// Whether a command is on an open file, and no server is asked for it.
+pub(crate) fn is_local(command: &Command) -> bool
+    ensures { result ≡ is_local command.now }
+{
+    matches!(
+        command,
+        Command::Write { .. } | Command::Trunc { .. } | Command::Read { .. } | Command::Abandon(_)
+    )
+}
+
+/// Why nothing else is asked for on a connection, by what the look came to by which it was tried.
+pub(crate) fn stops(looked: &Answer) -> Option<Why>
+    ensures { result ≡ stops looked.now }
+{
+    match looked {
+        Answer::Failed(Why::Lost) => Some(Why::NoLink),
+        Answer::Failed(Why::BadPeer(fault)) => Some(Why::BadPeer(*fault)),
+        _ => None,
+    }
 }
 
 /// Whether a command on names changes nothing.

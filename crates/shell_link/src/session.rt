@@ -1,6 +1,6 @@
 //! A client on its connection. `specs/Asking.antt` says what a command comes to.
 
-ghost use Rattle.std.specs.Prelude.{◌≡◌, ◌≤◌, true, false, None, IfOk, length};
+ghost use Rattle.std.specs.Prelude.{◌≡◌, ◌≤◌, Bool, true, false, None, IfOk, length};
 ghost use Rattle.limits.specs.declared.TheConstants.{FILE_MOST};
 ghost use Rattle.cache_file.specs.Items.{spelled};
 ghost use Rattle.cache_file.specs.Saved.{saved};
@@ -8,14 +8,15 @@ ghost use Rattle.client_state.specs.State.{State, start_with, local_bytes};
 ghost use Rattle.client_state.specs.Ending.{cut, joined};
 ghost use Rattle.wire.specs.declared.message.TheConstants.{LBFS_SPOKEN};
 ghost use Rattle.command_text.specs.declared.command.Command.{Command};
-ghost use Rattle.shell_link.specs.Asking.{answer_of, makes, told_of, kept, Sends, Runs, Once, Asks, AsksHinted, MayLearn, MayOffer, MayWarm, rereads, NotesNothing, Leaves};
+ghost use Rattle.shell_link.specs.Asking.{answer_of, makes, told_of, kept, Sends, Runs, Once, Tries, AsksJoined, Asks, AsksHinted, MayLearn, MayOffer, MayWarm, rereads, NotesNothing, Leaves};
 ghost use Rattle.shell_link.specs.Hearing.{nothing_heard};
 ghost use Rattle.shell_link.specs.declared.session.TheConstants.{DRIFT};
 
 use crate::hearing::{Heard, heed, nothing_heard};
-use crate::outcomes::{again_of, answer_of, is_lost, makes, rereads, said_of};
+use crate::outcomes::{again_of, answer_of, is_local, is_lost, makes, rereads, said_of, stops};
 use client_state::step::{ClientStep, Ended, Outcome};
 use command_text::command::Command;
+use command_text::path::PathCommand;
 use lb_base::items::{Bytes, Items};
 use lbfs_client::farewell::farewell;
 use limits::FILE_MOST;
@@ -51,6 +52,8 @@ struct Line<L> {
 pub struct Session<'e, D: Dials, C> {
     client: Client,
     line: Option<Line<D::L>>,
+    /// Whether one was joined so far: where none is there, it was lost.
+    was_joined: bool,
     /// The file that was closed last, whose places the client's index gets before the next command.
     stored: Option<u64>,
     /// Whether a command was asked for since the last farewell.
@@ -285,11 +288,13 @@ where
     #[tactic(auto, using(crate::proofs::Noting::notes_nothing))]
     pub fn new(alloc: Global, dialler: &'e D, clock: &'e C) -> Result<Session<'e, D, C>, AllocError>
         ensures start { IfOk result (λ s. s.client ≡ start_with DRIFT LBFS_SPOKEN) }
+        ensures fresh { IfOk result (λ s. s.was_joined ≡ false) }
         ensures notes { NotesNothing DRIFT }
     {
         Ok(Session {
             client: Client::new(alloc, DRIFT, LBFS_SPOKEN)?,
             line: None,
+            was_joined: false,
             stored: None,
             is_used: false,
             dialler,
@@ -301,12 +306,15 @@ where
     pub fn join(&mut self, alloc: Global) -> bool
         ensures joined { result ≡ true → self.new.client ≡ joined self.old.client }
         ensures stays { result ≡ false → self.new.client ≡ self.old.client }
+        ensures noted { result ≡ true → self.new.was_joined ≡ true }
+        ensures kept { result ≡ false → self.new.was_joined ≡ self.old.was_joined }
     {
         shut(&mut self.line);
         match dial(alloc, self.dialler) {
             Some(line) => {
                 self.line = Some(line);
                 self.client.joined(alloc);
+                self.was_joined = true;
                 true
             }
             None => false,
@@ -315,7 +323,8 @@ where
 
     /// Runs a command on the connection that there is.
     fn once(&mut self, alloc: Global, command: Command) -> Answer
-        ensures { Once self.old.client command result self.new.client }
+        ensures once { Once self.old.client command result self.new.client }
+        ensures kept { self.new.was_joined ≡ self.old.was_joined }
     {
         let answer = run(alloc, &mut self.client, &mut self.line, command, self.clock);
         if !self.client.linked() {
@@ -324,16 +333,46 @@ where
         answer
     }
 
-    /// Runs a command, on a new connection where there is none.
+    /// Runs a command on a connection that was joined in the place of one that was lost. A relay takes connections
+    /// whether or not a server is behind it, so this one is tried first: a change that was asked for and lost
+    /// may be done, or not, and nobody could tell.
+    fn tried(&mut self, alloc: Global, command: Command) -> Answer
+        ensures tries { Tries self.old.client command result self.new.client }
+        ensures kept { self.new.was_joined ≡ self.old.was_joined }
+    {
+        let looked = self.once(alloc, Command::Named(PathCommand::LookRoot));
+        match stops(&looked) {
+            Some(why) => Answer::Failed(why),
+            None => self.once(alloc, command),
+        }
+    }
+
+    /// Runs a command on a connection that was joined just now.
+    fn on_joined(&mut self, alloc: Global, was_joined: bool, command: Command) -> Answer
+        ensures asks { AsksJoined was_joined self.old.client command result self.new.client }
+        ensures kept { self.new.was_joined ≡ self.old.was_joined }
+    {
+        if was_joined {
+            self.tried(alloc, command)
+        } else {
+            self.once(alloc, command)
+        }
+    }
+
+    /// Runs a command, on a new connection where there is none and a server is asked for it.
     #[tactic(auto, using(crate::proofs::Again::at_first, crate::proofs::Again::at_joined))]
     fn first(&mut self, alloc: Global, command: Command) -> Answer
-        ensures { Asks self.old.client command result self.new.client }
+        ensures { Asks self.old.was_joined self.old.client command result self.new.client self.new.was_joined }
     {
+        if is_local(&command) {
+            return self.once(alloc, command);
+        }
         if self.client.linked() {
             return self.once(alloc, command);
         }
+        let was_joined = self.was_joined;
         if self.join(alloc) {
-            self.once(alloc, command)
+            self.on_joined(alloc, was_joined, command)
         } else {
             self.once(alloc, command)
         }
@@ -343,14 +382,15 @@ where
     /// is joined.
     #[tactic(auto, using(crate::proofs::Again::at_again, crate::proofs::Again::stayed))]
     fn repeat(&mut self, alloc: Global, command: Command, answer: Answer) -> Answer
-        ensures { (o : State) → rereads command ≡ true → Asks o command answer self.old.client → Asks o command result self.new.client }
+        ensures { (o : State) (was : Bool) → rereads command ≡ true → Asks was o command answer self.old.client self.old.was_joined
+            → Asks was o command result self.new.client self.new.was_joined }
     {
         if !is_lost(&answer) {
             return answer;
         }
         if self.join(alloc) {
             drop(answer);
-            self.once(alloc, command)
+            self.tried(alloc, command)
         } else {
             answer
         }
@@ -358,7 +398,7 @@ where
 
     /// Runs a command, and once more where it may be asked again.
     fn heard(&mut self, alloc: Global, command: Command) -> Answer
-        ensures { Asks self.old.client command result self.new.client }
+        ensures { Asks self.old.was_joined self.old.client command result self.new.client self.new.was_joined }
     {
         let again = again_of(alloc, &command);
         let answer = self.first(alloc, command);
@@ -373,15 +413,15 @@ impl<'e, D: Dials, C: Clock> Remote for Session<'e, D, C>
 where
     D::L: Drop,
 {
-    ghost asks = { λ s c a t. AsksHinted s.client c a t.client };
+    ghost asks = { λ s c a t. AsksHinted s.was_joined s.client c a t.client t.was_joined };
 
-    ghost offers = { λ s bytes t. MayOffer s.client bytes t.client };
+    ghost offers = { λ s bytes t. MayOffer s.client bytes t.client × (t.was_joined ≡ s.was_joined) };
 
-    ghost warms = { λ s bytes done t. MayWarm s.client bytes done t.client };
+    ghost warms = { λ s bytes done t. MayWarm s.client bytes done t.client × (t.was_joined ≡ s.was_joined) };
 
     ghost saves = { λ s bytes. bytes ≡ spelled (saved s.client.cache) };
 
-    ghost farewells = { λ s t. Leaves s.client t.client };
+    ghost farewells = { λ s t. Leaves s.client t.client × (t.was_joined ≡ s.was_joined) };
 
     ghost content = { λ s file. local_bytes s.client.opened file };
 
