@@ -3,7 +3,7 @@ import socket
 import threading
 import time
 
-from holding import hung_up, records, word
+from holding import hung_up, procedure, records, word
 from peer import LOOKUP, NFS, READDIR, ROOT, Peer, Reader, opaque, record, u32, u64
 from runs import Folder, Server
 
@@ -30,7 +30,11 @@ class Relay:
                 client, _ = self.listener.accept()
             except OSError:
                 return
-            server = socket.create_connection(("127.0.0.1", self.to))
+            try:
+                server = socket.create_connection(("127.0.0.1", self.to))
+            except OSError:
+                client.close()
+                continue
             for it in (client, server):
                 it.setsockopt(socket.IPPROTO_TCP, socket.TCP_NODELAY, 1)
             state = {}
@@ -51,6 +55,24 @@ class Relay:
 
     def down(self, answer, state):
         return answer
+
+
+class Forsaken(Relay):
+    """A relay whose server is killed before the call with this number is passed on, counted from 1 among those of this
+    procedure of LBFS, or among all. It takes connections still, and closes each at once, as `ssh -L` does."""
+
+    def __init__(self, server, number, of=None):
+        super().__init__(server.port)
+        self.server, self.left, self.of = server, number, of
+        self.lock = threading.Lock()
+
+    def up(self, call, state):
+        if self.of in (None, procedure(call)):
+            with self.lock:
+                self.left -= 1
+                if self.left == 0:
+                    self.server.kill()
+        return call
 
 
 class Slow(Relay):
