@@ -5,6 +5,7 @@ ghost use Rattle.limits.specs.declared.TheConstants.{FILE_MOST};
 ghost use Rattle.links.specs.declared.files.FilesError.TheVariants as errors;
 
 use crate::notes::{FileNote, tell};
+use crate::replacing::{Target, Untaken, replace, target_of};
 use lb_base::faults::one_more;
 use lb_base::items::{Bytes, Items};
 use lb_base::sink::GiveError;
@@ -14,7 +15,7 @@ use limits::FILE_MOST;
 use links::files::{Files, FilesError};
 use std::alloc::Global;
 use std::fs::OpenFile;
-use std::io::{Read, Write};
+use std::io::{ErrorKind, Read};
 use std::rt::Files as HostDisk;
 use std::{fs, io};
 
@@ -91,21 +92,32 @@ fn read_file<R: HostDisk + Eprint>(rt: &R, alloc: Global, name: &str) -> Result<
     }
 }
 
-/// Whether a file may be put under a name: a regular one stands there, or nothing does. A link is what it leads
-/// to, and one to nothing is something.
-fn takes_file<R: HostDisk>(rt: &R, name: &str) -> bool {
-    match fs::metadata(rt, name) {
-        Ok(facts) => facts.is_file(),
-        Err(_) => rt.symlink_metadata(name).is_err(),
+/// Tells why a file isn't put at a path.
+fn tell_untaken<R: Eprint>(rt: &R, name: &str, why: Untaken) {
+    match why {
+        Untaken::Failed(why) => tell(rt, &FileNote::Written { name, why }),
+        _ => tell(rt, &FileNote::NotRegular { name }),
     }
 }
 
-/// Writes a file beside the one of the name, and puts it in its place.
-fn write_file<R: HostDisk>(rt: &R, beside: &str, name: &str, bytes: &[u8]) -> io::Result<()> {
-    let mut file = fs::create(rt, beside)?;
-    file.write_all(bytes)?;
-    drop(file);
-    fs::rename(rt, beside, name)
+impl<R: HostDisk> HostFiles<R> {
+    /// Writes a file beside a target, under a name of this process, and puts it in its place.
+    fn replace_at(&self, alloc: Global, target: &Target, bytes: &[u8]) -> io::Result<()> {
+        let mark = self.mark;
+        let name = format!(in alloc; "~{mark}")?;
+        let beside = target.beside(alloc, name.as_str())?;
+        let file = fs::create(&self.rt, beside.as_str())?;
+        replace(&self.rt, file, beside.as_str(), target, bytes)
+    }
+
+    /// Puts a file at a path.
+    fn write(&self, alloc: Global, path: &str, bytes: &[u8]) -> Result<(), Untaken> {
+        let target = target_of(&self.rt, alloc, path)?;
+        match self.replace_at(alloc, &target, bytes) {
+            Ok(()) => Ok(()),
+            Err(why) => Err(Untaken::Failed(why)),
+        }
+    }
 }
 
 impl<R: HostDisk + Eprint> Files for HostFiles<R> {
@@ -136,18 +148,13 @@ impl<R: HostDisk + Eprint> Files for HostFiles<R> {
     }
 
     fn put(&mut self, alloc: Global, name: &str, bytes: &[u8]) -> Result<(), GiveError> {
-        if !takes_file(&self.rt, name) {
-            tell(&self.rt, &FileNote::NotRegular { name });
-            self.faults = one_more(self.faults);
-            return Err(GiveError::Failed);
-        }
-        let mark = self.mark;
-        let beside = format!(in alloc; "~{mark}")?;
-        match write_file(&self.rt, beside.as_str(), name, bytes) {
+        match self.write(alloc, name, bytes) {
             Ok(()) => Ok(()),
+            Err(Untaken::Failed(why)) if why.kind() == ErrorKind::OutOfMemory => {
+                Err(GiveError::Memory)
+            }
             Err(why) => {
-                tell(&self.rt, &FileNote::Written { name, why });
-                let _gone = fs::remove_file(&self.rt, beside.as_str());
+                tell_untaken(&self.rt, name, why);
                 self.faults = one_more(self.faults);
                 Err(GiveError::Failed)
             }

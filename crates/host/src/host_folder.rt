@@ -4,6 +4,7 @@ ghost use Rattle.std.specs.Prelude.{◌≤◌, length, IfOk};
 ghost use Rattle.limits.specs.declared.TheConstants.{FILE_MOST};
 
 use crate::left_over::clear_name;
+use crate::replacing::{Target, Untaken, replace, target_of};
 use command_text::parts::first_part;
 use lb_base::items::{Bytes, Items, Name};
 use lb_base::source::{ReadError, read_all};
@@ -12,8 +13,8 @@ use limits::FILE_MOST;
 use shell_walks::folder::{Folder, Folders, Kind, LocalFault};
 use shell_words::local::LocalPath;
 use std::alloc::{AllocError, Global};
-use std::fs::{Metadata, OpenFile, OpenOptions};
-use std::io::{ErrorKind, Write};
+use std::fs::{File, Metadata};
+use std::io::ErrorKind;
 use std::rt::{Clock as HostTime, Files as HostDisk};
 use std::{fs, io};
 
@@ -48,10 +49,10 @@ impl<R: HostDisk> HostFolder<R> {
         target: &Target,
     ) -> Result<(String, R::File), LocalFault> {
         for _try in 0..TRIES {
-            let Ok(path) = beside(alloc, target.path.as_str(), self.mark, self.number) else {
+            let Ok(path) = beside(alloc, target, self.mark, self.number) else {
                 return Err(LocalFault::Memory);
             };
-            match create(&self.rt, path.as_str()) {
+            match File::create_new(&self.rt, path.as_str()) {
                 Ok(file) => return Ok((path, file)),
                 Err(error) if error.kind() == ErrorKind::AlreadyExists => {
                     self.number = self.number.saturating_add(1);
@@ -111,99 +112,21 @@ fn read_file<R: HostDisk>(rt: &R, alloc: Global, path: &str) -> Result<Bytes, Lo
     }
 }
 
-/// What is written, and what keeps its permissions where it is there.
-#[derive(Drop)]
-struct Target {
-    /// What the path leads to.
-    path: String,
-    kept: Option<Metadata>,
-}
-
-/// What a path leads to. A symbolic link that leads nowhere is none.
-fn target_of<R: HostDisk>(rt: &R, alloc: Global, path: &str) -> Result<Target, LocalFault> {
-    match rt.metadata(path) {
-        Ok(kept) => {
-            if kept.is_dir() {
-                return Err(LocalFault::IsFolder);
-            }
-            if !kept.is_file() {
-                return Err(LocalFault::Odd);
-            }
-            match rt.canonicalize(alloc, path) {
-                Ok(real) => Ok(Target {
-                    path: copied(alloc, real.as_str())?,
-                    kept: Some(kept),
-                }),
-                Err(error) => Err(fault_of(&error)),
-            }
-        }
-        Err(error) if error.kind() == ErrorKind::NotFound => new_target(rt, alloc, path),
-        Err(error) => Err(fault_of(&error)),
+/// What is replaced by a file at a path, or made.
+fn target_at<R: HostDisk>(rt: &R, alloc: Global, path: &str) -> Result<Target, LocalFault> {
+    match target_of(rt, alloc, path) {
+        Ok(target) => Ok(target),
+        Err(Untaken::Folder) => Err(LocalFault::IsFolder),
+        Err(Untaken::Odd) => Err(LocalFault::Odd),
+        Err(Untaken::Nowhere) => Err(LocalFault::Nowhere),
+        Err(Untaken::Failed(error)) => Err(fault_of(&error)),
     }
 }
 
-/// A copy of a path.
-fn copied(alloc: Global, path: &str) -> Result<String, LocalFault> {
-    match String::from_str(alloc, path) {
-        Ok(text) => Ok(text),
-        Err(AllocError) => Err(LocalFault::Memory),
-    }
-}
-
-/// A path at which nothing is there yet.
-fn new_target<R: HostDisk>(rt: &R, alloc: Global, path: &str) -> Result<Target, LocalFault> {
-    match rt.symlink_metadata(path) {
-        Ok(_link) => Err(LocalFault::Nowhere),
-        Err(_) => Ok(Target {
-            path: copied(alloc, path)?,
-            kept: None,
-        }),
-    }
-}
-
-/// The path of a file beside a target, in its folder.
-fn beside(alloc: Global, target: &str, mark: u32, number: u32) -> Result<String, AllocError> {
-    let mut path = String::new(alloc);
-    if let Some((folder, _name)) = target.rsplit_once('/') {
-        path.push_str(folder)?;
-        path.push_str("/")?;
-    }
+/// The path of a file beside a target, which is named after two numbers.
+fn beside(alloc: Global, target: &Target, mark: u32, number: u32) -> Result<String, AllocError> {
     let name = LocalPath::temporary(alloc, mark, number)?;
-    path.push_str(name.as_str())?;
-    Ok(path)
-}
-
-/// Makes a file that isn't there yet.
-fn create<R: HostDisk>(rt: &R, path: &str) -> io::Result<R::File> {
-    OpenOptions::new()
-        .write(true)
-        .create_new(true)
-        .open(rt, path)
-}
-
-/// A file gets the permissions of the one that it is to replace.
-fn keep_permissions<F: OpenFile>(file: &F, target: &Target) -> io::Result<()> {
-    match &target.kept {
-        Some(kept) => file.set_permissions(kept.permissions()),
-        None => Ok(()),
-    }
-}
-
-/// Writes the new file beside, with the permissions of the one that it is to replace, and puts it in its
-/// place. It has them before its bytes, so that nobody reads these who may not; the system may take some
-/// away as it is written.
-fn replace<R: HostDisk>(
-    rt: &R,
-    mut file: R::File,
-    beside: &str,
-    target: &Target,
-    bytes: &[u8],
-) -> io::Result<()> {
-    keep_permissions(&file, target)?;
-    file.write_all(bytes)?;
-    keep_permissions(&file, target)?;
-    drop(file);
-    fs::rename(rt, beside, target.path.as_str())
+    target.beside(alloc, name.as_str())
 }
 
 /// What a path stands for at which nothing was found: where links are followed, one may lead there.
@@ -333,7 +256,7 @@ impl<R: HostDisk + HostTime + Eprint> Folder for HostFolder<R> {
     }
 
     fn try_write(&mut self, alloc: Global, path: &str) -> Result<(), LocalFault> {
-        let target = target_of(&self.rt, alloc, path)?;
+        let target = target_at(&self.rt, alloc, path)?;
         let (beside, file) = self.make_beside(alloc, &target)?;
         drop(file);
         let _gone = fs::remove_file(&self.rt, beside.as_str());
@@ -341,14 +264,11 @@ impl<R: HostDisk + HostTime + Eprint> Folder for HostFolder<R> {
     }
 
     fn write(&mut self, alloc: Global, path: &str, bytes: &[u8]) -> Result<(), LocalFault> {
-        let target = target_of(&self.rt, alloc, path)?;
+        let target = target_at(&self.rt, alloc, path)?;
         let (beside, file) = self.make_beside(alloc, &target)?;
         match replace(&self.rt, file, beside.as_str(), &target, bytes) {
             Ok(()) => Ok(()),
-            Err(error) => {
-                let _gone = fs::remove_file(&self.rt, beside.as_str());
-                Err(unwritten(&error))
-            }
+            Err(error) => Err(unwritten(&error)),
         }
     }
 

@@ -8,6 +8,7 @@ pub mod host_files;
 pub mod host_folder;
 mod left_over;
 pub mod notes;
+mod replacing;
 pub mod screen;
 pub mod serving;
 mod sleeping;
