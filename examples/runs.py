@@ -40,6 +40,11 @@ def listens(port):
     return any(row[1].endswith(f":{port:04X}") and row[3] == "0A" for row in rows[1:])
 
 
+def quiet_line(folder, term):
+    """What a server says once it listens, of a store in which anything was ever changed."""
+    return f"lbfs: {folder}: for the first {term} ms puts, removals of files and renames over them wait (leases of the run before)"
+
+
 def heed_signals():
     """What a program is started with: it ends by the signals of a terminal, though they be ignored here, as they are in
     the background of a shell, and under nohup."""

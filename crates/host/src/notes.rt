@@ -66,6 +66,12 @@ pub enum RunNote<'a> {
         port: u16,
         files: u64,
     },
+    #[error("{place}: for the first {term} ms puts, removals of files and renames over them wait \
+         (leases of the run before)")]
+    Quiet {
+        place: &'a str,
+        term: u64,
+    },
     #[error("memory ran out")]
     Memory,
     #[error("no thread could be started")]

@@ -132,6 +132,11 @@ impl Term {
         self.place.as_str()
     }
 
+    /// For how many milliseconds leases are granted.
+    pub(crate) fn millis(&self) -> u64 {
+        self.term
+    }
+
     /// Waits until no lease of the run before lasts longer than this term. Nobody else may serve the folder.
     pub(crate) fn await_longer<R: HostDisk + HostTime + Eprint>(&self, rt: &R) {
         let before = noted_term(rt, self.path.as_str()).unwrap_or(0);

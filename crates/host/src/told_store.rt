@@ -1,5 +1,5 @@
-//! A store that notes, once it is loaded, how many files it has, for who tells what is served, and waits then for
-//! leases of the run before (`terms`). It is in all else the one that it stands over.
+//! A store that notes, once it is loaded, how many files it has and whether anything was ever changed, for who tells
+//! what is served, and waits then for leases of the run before (`terms`). It is in all else the one that it stands over.
 
 ghost use Rattle.std.specs.Prelude.{◌≡◌};
 
@@ -47,6 +47,14 @@ fn files_in(records: &[Kept]) -> u64 {
     records.iter().filter(|kept| is_file(kept)).count() as u64
 }
 
+/// Whether anything was ever changed. Records that load begin with the head, or there are none.
+fn is_changed(records: &[Kept]) -> bool {
+    match records.first() {
+        Some(Kept::Head(head)) => head.changes > 0,
+        _ => false,
+    }
+}
+
 impl<R: HostDisk + HostTime + Eprint, S: Store> Store for ToldStore<R, S> {
     ghost records = { λ s. S.records s.store };
 
@@ -60,7 +68,8 @@ impl<R: HostDisk + HostTime + Eprint, S: Store> Store for ToldStore<R, S> {
         match self.store.load(alloc, place) {
             Ok(records) => {
                 if let Some(serving) = &self.serving {
-                    serving.note_files(files_in(records.as_slice()));
+                    let records = records.as_slice();
+                    serving.note_store(files_in(records), is_changed(records));
                     serving.await_leases(&self.rt);
                 }
                 Ok(records)
