@@ -52,6 +52,14 @@ is ended (Ctrl-C). Leases last for MS milliseconds, 30000 where none are given.
 With --unsynced nothing is flushed to the disk before it is answered.
 ";
 
+/// What `shell --help` says above its commands.
+const SHELL: &str = "lbfs shell --port P [--links N] [--cache NAME] [--quiet] [COMMAND ..]
+Does COMMAND, or what is typed, on the folder that is served at port P of this
+host, over N connections at once, 8 where none are given. NAME is a cache file.
+With --quiet neither how far a command is nor what it came to is said.
+
+";
+
 /// A word more.
 fn put_word(alloc: Global, command: &mut Items<Name>, word: &[u8]) -> Result<(), AllocError> {
     let name = Name::copy_of(alloc, word)?;
@@ -75,26 +83,43 @@ fn help_options(alloc: Global, words: &[String]) -> Result<ShellOptions, AllocEr
     })
 }
 
-/// `share --help`.
-pub(crate) fn share_help(rt: &HostRuntime) -> ExitCode {
-    match print!(rt; "{SHARE}") {
-        Ok(()) => ExitCode::from(ShellEnd::Done.code()),
+/// Writes what there is to type; the error is how the program ends where it can't be written.
+fn put_help(rt: &HostRuntime, text: &str) -> Result<(), ShellEnd> {
+    match print!(rt; "{text}") {
+        Ok(()) => Ok(()),
         Err(why) => {
             tell(rt, &StreamNote::Output(why));
-            ExitCode::from(ShellEnd::WriteFault.code())
+            Err(ShellEnd::WriteFault)
         }
     }
 }
 
-/// `shell --help`: what `help` says, of these words.
+/// `share --help`.
+pub(crate) fn share_help(rt: &HostRuntime) -> ExitCode {
+    match put_help(rt, SHARE) {
+        Ok(()) => ExitCode::from(ShellEnd::Done.code()),
+        Err(end) => ExitCode::from(end.code()),
+    }
+}
+
+/// `shell --help`: its own words, and what `help` says; where there are words, only what `help` says of these.
 pub(crate) fn run_help<H: Threads + Wait + Sync>(
     handle: &H,
     rt: HostRuntime,
     words: &[String],
 ) -> ExitCode {
-    match help_options(rt.alloc(), words) {
-        Ok(options) => run_front(handle, rt, options),
-        Err(AllocError) => ExitCode::from(ShellEnd::Memory.code()),
+    let Ok(options) = help_options(rt.alloc(), words) else {
+        tell(&rt, &RunNote::Memory);
+        return ExitCode::from(ShellEnd::Memory.code());
+    };
+    let written = if words.is_empty() {
+        put_help(&rt, SHELL)
+    } else {
+        Ok(())
+    };
+    match written {
+        Ok(()) => run_front(handle, rt, options),
+        Err(end) => ExitCode::from(end.code()),
     }
 }
 

@@ -85,19 +85,26 @@ fn put_usage(text: &mut String) -> Result<(), AllocError> {
     text.push_str("docs/COMMANDS.md says what each reads, writes and ends with.\n")
 }
 
-/// The words of the command that is named first; all where none is.
-fn put_usage_of(text: &mut String, words: &[String]) -> Result<(), AllocError> {
-    let Some(word) = words.first() else {
+/// Whether a command has this name.
+fn is_named(name: &str) -> bool {
+    USES.iter().any(|it| it.name == name)
+}
+
+/// The words of the command of a name, and for a call for help what it does; all words that there are where no
+/// command has it.
+fn put_usage_of(text: &mut String, name: &str, is_help: bool) -> Result<(), AllocError> {
+    if !is_named(name) {
         return put_usage(text);
-    };
-    let mut is_named = false;
+    }
     for it in USES.iter() {
-        if word.as_str() == it.name {
+        if name == it.name {
             write!(text, "usage: lbfs {}\n", it.words)?;
-            is_named = true;
+            if is_help {
+                write!(text, "      {}\n", it.does)?;
+            }
         }
     }
-    if is_named { Ok(()) } else { put_usage(text) }
+    Ok(())
 }
 
 /// Each option whose value is a number, and between which numbers it lies.
@@ -181,16 +188,34 @@ fn put_reason(alloc: Global, text: &mut String, words: &[String]) -> Result<(), 
     }
 }
 
-/// What is told of words that ask for nothing: a line that says what is wrong with them, and the
-/// words of the command that was meant; where they are none, or a call for help, all words that
-/// there are. The one error is running out of memory.
+/// The command that `help` asks of, if it asks of one.
+fn helped(words: &[String]) -> Option<&str> {
+    match words {
+        [help, name] if help.as_str() == "help" && is_named(name.as_str()) => Some(name.as_str()),
+        _ => None,
+    }
+}
+
+/// The first word; an empty one where there is none.
+fn first_word(words: &[String]) -> &str {
+    match words.first() {
+        Some(word) => word.as_str(),
+        None => "",
+    }
+}
+
+/// What is told of words that ask for nothing: a line that says what is wrong with them, unless they are a call
+/// for help, and the words of the command that was meant; all words that there are, where none was. The one error is
+/// running out of memory.
 pub fn refusal(alloc: Global, words: &[String]) -> Result<String, AllocError> {
     let mut text = String::new(alloc);
-    put_reason(alloc, &mut text, words)?;
-    if text.is_empty() {
-        put_usage(&mut text)?;
-    } else {
-        put_usage_of(&mut text, words)?;
+    match helped(words) {
+        Some(name) => put_usage_of(&mut text, name, true)?,
+        None => {
+            put_reason(alloc, &mut text, words)?;
+            let is_help = text.is_empty();
+            put_usage_of(&mut text, first_word(words), is_help)?;
+        }
     }
     Ok(text)
 }
