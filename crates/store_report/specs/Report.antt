@@ -35,18 +35,18 @@ subject_of rule.TooBig = subject.Own
 subject_of rule.TreeFull = subject.Own
 
 abbrev pub rule_text : Rule → List ℕ
-rule_text rule.Headless = codes "isn't there"
+rule_text rule.Headless = codes "is missing or unreadable"
 rule_text rule.HeadLimits = codes "its numbers are past their limits"
 rule_text rule.SecondHead = codes "a second one"
 rule_text rule.Id = codes "its id is the root's, or not below the head's next"
 rule_text rule.IdTwice = codes "another node has its id"
-rule_text rule.NoDirectory = codes "its directory isn't there, or is a file"
+rule_text rule.NoDirectory = codes "its directory is missing, unreadable or a file"
 rule_text rule.Name = codes "no directory may hold its name"
 rule_text rule.NameTwice = codes "another node of its directory has its name"
 rule_text rule.Unreached = codes "the root isn't above it"
-rule_text rule.NoContent = codes "isn't there, and its file is"
+rule_text rule.NoContent = codes "is missing or unreadable, and its file isn't"
 rule_text rule.HasContent = codes "a directory with a content"
-rule_text rule.NoFile = codes "isn't there, and its content is"
+rule_text rule.NoFile = codes "is missing or unreadable, and its content isn't"
 rule_text rule.OfDirectory = codes "the content of a directory"
 rule_text rule.ContentTwice = codes "another content has its id"
 rule_text rule.Version = codes "its version is 0, or past the head's count of changes"

@@ -14,15 +14,15 @@ abbrev line : (letter : List ℕ) → (id : ℕ) → (text : List ℕ) → List 
 line letter id text = letter ++ decimal id ++ codes ": " ++ text ++ [] ++ codes "\n"
 
 -- a content that is missing, one whose node is, and one past the head's count
-row_broken : report [] (head 5 1 ∷ kept_file 2 1 (codes "a") ∷ kept_file 3 1 (codes "b") ∷ kept_content 2 7 [] ∷ kept_content 4 1 [] ∷ []) ≡ (false, line (codes "c") 3 (codes "isn't there, and its file is") ++ (line (codes "c") 2 (codes "its version is 0, or past the head's count of changes") ++ (line (codes "n") 4 (codes "isn't there, and its content is") ++ [])))
+row_broken : report [] (head 5 1 ∷ kept_file 2 1 (codes "a") ∷ kept_file 3 1 (codes "b") ∷ kept_content 2 7 [] ∷ kept_content 4 1 [] ∷ []) ≡ (false, line (codes "c") 3 (codes "is missing or unreadable, and its file isn't") ++ (line (codes "c") 2 (codes "its version is 0, or past the head's count of changes") ++ (line (codes "n") 4 (codes "is missing or unreadable, and its content isn't") ++ [])))
 row_broken = refl
 
 -- what was found stands first
-row_found : report (codes "n7: not a node" ∷ codes "c2: permission denied" ∷ []) (kept_file 2 1 (codes "a") ∷ []) ≡ (false, codes "n7: not a node\n" ++ codes "c2: permission denied\n" ++ codes "head: isn't there\n" ++ (line (codes "c") 2 (codes "isn't there, and its file is") ++ []))
+row_found : report (codes "n7: not a node" ∷ codes "c2: permission denied" ∷ []) (kept_file 2 1 (codes "a") ∷ []) ≡ (false, codes "n7: not a node\n" ++ codes "c2: permission denied\n" ++ codes "head: is missing or unreadable\n" ++ (line (codes "c") 2 (codes "is missing or unreadable, and its file isn't") ++ []))
 row_found = refl
 
 -- the first alone; where a file isn't read as its record that is told by itself
-row_first : first_broken [] (head 5 1 ∷ kept_file 2 1 (codes "a") ∷ kept_file 3 1 (codes "b") ∷ kept_content 2 7 [] ∷ []) ≡ Some (line (codes "c") 3 (codes "isn't there, and its file is"))
+row_first : first_broken [] (head 5 1 ∷ kept_file 2 1 (codes "a") ∷ kept_file 3 1 (codes "b") ∷ kept_content 2 7 [] ∷ []) ≡ Some (line (codes "c") 3 (codes "is missing or unreadable, and its file isn't"))
 row_first = refl
 
 row_first_found : first_broken (codes "n7: not a node" ∷ []) (kept_file 2 1 (codes "a") ∷ []) ≡ None

@@ -51,18 +51,18 @@ pub fn rule_text(rule: Rule) -> &'static str
     ensures { result.now ≡ rule_text rule }
 {
     match rule {
-        Rule::Headless => "isn't there",
+        Rule::Headless => "is missing or unreadable",
         Rule::HeadLimits => "its numbers are past their limits",
         Rule::SecondHead => "a second one",
         Rule::Id => "its id is the root's, or not below the head's next",
         Rule::IdTwice => "another node has its id",
-        Rule::NoDirectory => "its directory isn't there, or is a file",
+        Rule::NoDirectory => "its directory is missing, unreadable or a file",
         Rule::Name => "no directory may hold its name",
         Rule::NameTwice => "another node of its directory has its name",
         Rule::Unreached => "the root isn't above it",
-        Rule::NoContent => "isn't there, and its file is",
+        Rule::NoContent => "is missing or unreadable, and its file isn't",
         Rule::HasContent => "a directory with a content",
-        Rule::NoFile => "isn't there, and its content is",
+        Rule::NoFile => "is missing or unreadable, and its content isn't",
         Rule::OfDirectory => "the content of a directory",
         Rule::ContentTwice => "another content has its id",
         Rule::Version => "its version is 0, or past the head's count of changes",
