@@ -27,8 +27,12 @@ size_text n =
     else if nat_lt n 10000000 then middle_text (n / 10000)
     else big_text (n / 100000)
 
+-- how many names were said that weren't done, where there are some
+abbrev pub undone_text : ℕ → List ℕ
+undone_text n = if nat_lt 0 n then codes "; " ++ decimal n ++ codes " not done" else []
+
 abbrev pub end_line : Tally → (wire : ℕ) → List ℕ
-end_line t wire = count_text t.files (codes "file") ++ codes ", " ++ size_text t.bytes ++ codes "; " ++ size_text wire ++ codes " on the line\n"
+end_line t wire = count_text t.files (codes "file") ++ codes ", " ++ size_text t.bytes ++ codes "; " ++ size_text wire ++ codes " on the line" ++ undone_text t.undone ++ codes "\n"
 
 -- ---- how far a command is
 
@@ -76,17 +80,20 @@ abbrev pub shown_line : (counts : Bool) → Glance → Option (List ℕ)
 shown_line true g = Some (progress_line g)
 shown_line false g = if nat_le 2000 g.still then Some waiting_line else None
 
--- what goes on with a folder, and with a directory: it goes to LOCAL itself, which is there by then
+-- what goes on with a folder, and with a directory: it goes to LOCAL itself, which is there by then. It is no line for the host's own shell, which may have a `sync`, too
+abbrev pub again_words : List ℕ
+again_words = codes "; to go on in lbfs shell: "
+
 abbrev pub delete_words : Bool → List ℕ
 delete_words true = codes "--delete "
 delete_words false = []
 
 abbrev pub sync_again : (deep deletes : Bool) → (local : List ℕ) → (path : List (List ℕ)) → List ℕ
-sync_again true deletes local path = codes "; to go on: sync " ++ delete_words deletes ++ quoted local ++ codes " " ++ path_text path
+sync_again true deletes local path = again_words ++ codes "sync " ++ delete_words deletes ++ quoted local ++ codes " " ++ path_text path
 sync_again false deletes local path = []
 
 abbrev pub get_again : (deep : Bool) → (path : List (List ℕ)) → (local : List ℕ) → List ℕ
-get_again true path local = codes "; to go on: get -r " ++ path_text path ++ codes "/. " ++ quoted local
+get_again true path local = again_words ++ codes "get -r " ++ path_text path ++ codes "/. " ++ quoted local
 get_again false path local = []
 
 abbrev pub again_text : Task → List ℕ
@@ -101,8 +108,8 @@ stopped_line t left again = codes "stopped: " ++ files_text t.files left ++ code
 -- ---- what is said beside it
 
 -- of those that were known: a directory that wasn't begun may have had many more
-abbrev pub left_out_text : ℕ → List ℕ
-left_out_text n = codes "not begun: at least " ++ decimal n ++ codes " more\n"
+abbrev pub left_out_text : ℕ → (again : List ℕ) → List ℕ
+left_out_text n again = codes "not begun: at least " ++ decimal n ++ codes " more" ++ again ++ codes "\n"
 
 abbrev pub prompt_text : List (List ℕ) → List ℕ
 prompt_text place = codes "lbfs:" ++ path_text place ++ codes "> "

@@ -21,7 +21,7 @@ struct Jobs {
     /// How many are being done.
     busy: u64,
     tally: Tally,
-    /// What goes on with them, where the program is ended.
+    /// What goes on with them, where the program is ended, or no server answers any more.
     again: Bytes,
     /// Whether what was stored and removed isn't said.
     is_quiet: bool,
@@ -92,7 +92,7 @@ impl Jobs {
     /// How many tasks weren't begun is said, where some weren't.
     fn say_left_out<P: Screen>(&mut self, alloc: Global, screen: &P) {
         if self.left_out > 0 {
-            match left_out_text(alloc, self.left_out) {
+            match left_out_text(alloc, self.left_out, self.again.as_slice()) {
                 Ok(text) => self.say(screen, text.as_slice()),
                 Err(AllocError) => self.is_starved = true,
             }

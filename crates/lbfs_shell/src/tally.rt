@@ -1,7 +1,7 @@
 //! What the tasks of a command came to so far.
 
 ghost use Rattle.std.specs.Prelude.{◌≡◌, true};
-ghost use Rattle.lbfs_shell.specs.Tally.{nothing_yet, with_visit, capped_sum, is_told};
+ghost use Rattle.lbfs_shell.specs.Tally.{nothing_yet, lines_of, with_visit, capped_sum, is_told};
 
 use shell_commands::visiting::Visited;
 
@@ -12,8 +12,17 @@ pub(crate) struct Tally {
     pub(crate) files: u64,
     /// How many bytes these have.
     pub(crate) bytes: u64,
+    /// How many names were said that weren't stored, fetched or removed, or are passed over.
+    pub(crate) undone: u64,
     /// Whether all was done.
     pub(crate) is_fine: bool,
+}
+
+/// How many names a note says: a line for each.
+fn lines_of(note: &[u8]) -> u64
+    ensures { result ≡ lines_of note.now }
+{
+    note.iter().filter(|byte| **byte == b'\n').count() as u64
 }
 
 impl Tally {
@@ -24,6 +33,7 @@ impl Tally {
         Tally {
             files: 0,
             bytes: 0,
+            undone: 0,
             is_fine: true,
         }
     }
@@ -32,9 +42,11 @@ impl Tally {
     pub(crate) fn with(self, visited: &Visited) -> Tally
         ensures { result ≡ with_visit self visited.now }
     {
+        let undone = lines_of(visited.note.as_slice());
         Tally {
             files: self.files.saturating_add(visited.files),
             bytes: self.bytes.saturating_add(visited.bytes),
+            undone: self.undone.saturating_add(undone),
             is_fine: self.is_fine && visited.note.is_empty(),
         }
     }

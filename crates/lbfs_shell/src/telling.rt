@@ -1,8 +1,8 @@
 //! The lines that say how far a command is, and what it came to: `specs/Telling.antt`.
 
 ghost use Rattle.std.specs.Prelude.{◌≡◌, ◌++◌, IfOk, OnOk, codes, decimal};
-ghost use Rattle.lbfs_shell.specs.Telling.{count_text, big_text, middle_text, size_text, end_line, rate_text, left_of, left_text, files_text, line_part, pace_text, progress_line, waits_text, waiting_line, shown_line, left_out_text, stopped_line};
-ghost use Rattle.lbfs_shell.specs.Telling.{delete_words, sync_again, get_again, again_text};
+ghost use Rattle.lbfs_shell.specs.Telling.{count_text, big_text, middle_text, size_text, undone_text, end_line, rate_text, left_of, left_text, files_text, line_part, pace_text, progress_line, waits_text, waiting_line, shown_line, left_out_text, stopped_line, unsure_line};
+ghost use Rattle.lbfs_shell.specs.Telling.{delete_words, again_words, sync_again, get_again, again_text};
 ghost use Rattle.lbfs_shell.specs.Telling.{prompt_text, number_text, line_text};
 
 use crate::tally::Tally;
@@ -86,6 +86,17 @@ fn size_text(alloc: Global, bytes: u64) -> Result<Bytes, AllocError>
     }
 }
 
+/// How many names were said that weren't done, where there are some.
+fn undone_text(alloc: Global, count: u64) -> Result<Bytes, AllocError>
+    ensures { IfOk result (λ text. text ≡ undone_text count) }
+{
+    let mut text = String::new(alloc);
+    if count > 0 {
+        write!(text, "; {count} not done")?;
+    }
+    Ok(Items::from_vec(text.into_bytes()))
+}
+
 /// The line at a command's end.
 pub(crate) fn end_line(alloc: Global, tally: Tally, wire: u64) -> Result<Bytes, AllocError>
     ensures { IfOk result (λ text. text ≡ end_line tally wire) }
@@ -93,11 +104,14 @@ pub(crate) fn end_line(alloc: Global, tally: Tally, wire: u64) -> Result<Bytes, 
     let mut out = count_text(alloc, tally.files, "file")?;
     let contents = size_text(alloc, tally.bytes)?;
     let line = size_text(alloc, wire)?;
+    let undone = undone_text(alloc, tally.undone)?;
     out.extend_from_slice(b", ")?;
     out.extend_from_slice(contents.as_slice())?;
     out.extend_from_slice(b"; ")?;
     out.extend_from_slice(line.as_slice())?;
-    out.extend_from_slice(b" on the line\n")?;
+    out.extend_from_slice(b" on the line")?;
+    out.extend_from_slice(undone.as_slice())?;
+    out.extend_from_slice(b"\n")?;
     Ok(out)
 }
 
@@ -225,6 +239,13 @@ fn delete_words(deletes: bool) -> &'static [u8]
     if deletes { b"--delete " } else { b"" }
 }
 
+/// That what follows goes on with a command, and where it is typed.
+fn again_words() -> &'static [u8]
+    ensures { result.now ≡ again_words }
+{
+    b"; to go on in lbfs shell: "
+}
+
 /// What goes on with a folder that is stored.
 fn sync_again(
     alloc: Global,
@@ -240,7 +261,8 @@ fn sync_again(
     }
     let here = quoted(alloc, local.as_bytes())?;
     let there = path_text(alloc, path)?;
-    let mut out = Items::copy_of(alloc, b"; to go on: sync ")?;
+    let mut out = Items::copy_of(alloc, again_words())?;
+    out.extend_from_slice(b"sync ")?;
     out.extend_from_slice(delete_words(deletes))?;
     out.extend_from_slice(here.as_slice())?;
     out.extend_from_slice(b" ")?;
@@ -257,7 +279,8 @@ fn get_again(alloc: Global, deep: bool, path: &[Name], local: &str) -> Result<By
     }
     let there = path_text(alloc, path)?;
     let here = quoted(alloc, local.as_bytes())?;
-    let mut out = Items::copy_of(alloc, b"; to go on: get -r ")?;
+    let mut out = Items::copy_of(alloc, again_words())?;
+    out.extend_from_slice(b"get -r ")?;
     out.extend_from_slice(there.as_slice())?;
     out.extend_from_slice(b"/. ")?;
     out.extend_from_slice(here.as_slice())?;
@@ -320,12 +343,15 @@ fn put_count(alloc: Global, out: &mut Bytes, count: u64) -> Result<(), AllocErro
 }
 
 /// What is said of tasks that weren't begun, and were known: a directory among them may have had many more.
-pub(crate) fn left_out_text(alloc: Global, count: u64) -> Result<Bytes, AllocError>
-    ensures { IfOk result (λ text. text ≡ left_out_text count) }
+pub(crate) fn left_out_text(alloc: Global, count: u64, again: &[u8]) -> Result<Bytes, AllocError>
+    ensures { IfOk result (λ text. text ≡ left_out_text count again.now) }
 {
-    let mut text = String::new(alloc);
-    write!(text, "not begun: at least {count} more\n")?;
-    Ok(Items::from_vec(text.into_bytes()))
+    let mut out = Items::copy_of(alloc, b"not begun: at least ")?;
+    put_count(alloc, &mut out, count)?;
+    out.extend_from_slice(b" more")?;
+    out.extend_from_slice(again)?;
+    out.extend_from_slice(b"\n")?;
+    Ok(out)
 }
 
 /// The prompt of a shell that stands in this directory.
