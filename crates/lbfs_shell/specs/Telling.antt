@@ -105,6 +105,11 @@ again_text t = []
 abbrev pub stopped_line : Tally → (left : ℕ) → (again : List ℕ) → List ℕ
 stopped_line t left again = codes "stopped: " ++ files_text t.files left ++ codes ", " ++ size_text t.bytes ++ again ++ codes "\n"
 
+-- the same of one that isn't done in tasks: `rm -r` may have removed a part
+abbrev pub unsure_line : (deep : Bool) → List ℕ
+unsure_line true = codes "stopped: it may have been done, wholly or in part, or not\n"
+unsure_line false = codes "stopped: it may have been done, or not\n"
+
 -- ---- what is said beside it
 
 -- of those that were known: a directory that wasn't begun may have had many more

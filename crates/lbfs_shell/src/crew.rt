@@ -8,6 +8,7 @@ ghost use Rattle.lbfs_shell.specs.Ends.{HasLeft};
 use crate::outside::Outside;
 use crate::pool::Pool;
 use crate::tally::Tally;
+use crate::telling::unsure_line;
 use crate::watching::watch;
 use last_words::keeping::Keeps;
 use links::clock::Clock;
@@ -252,7 +253,15 @@ where
     pool.into_tally()
 }
 
-/// Runs a command that isn't done in tasks, and shows meanwhile that it waits.
+/// That a command was ended which isn't done in tasks is to be said where the program is ended now.
+fn keep_unsure<P: Keeps>(screen: &P, manner: Manner, line: &Line) {
+    if !manner.quiet {
+        screen.keep(unsure_line(line.has_option));
+    }
+}
+
+/// Runs a command that isn't done in tasks, and shows meanwhile that it waits. Where the program is ended in its midst
+/// it is to be said that it may have been done.
 fn run_watched<
     'x,
     W: Threads + Wait + Sync,
@@ -284,6 +293,7 @@ where
         move |scope| -> Result<Went, AllocError>
             requires { IsSend D.L.row × IsSend H.F.row }
         {
+            keep_unsure(&out.screen, manner, line);
             call_watcher(scope, rt, alloc, pool, out, manner);
             let went = shell.run(alloc, remote, folder, line);
             pool.end(rt, alloc, &out.screen);
@@ -316,7 +326,7 @@ where
     D::L: Drop + Send,
     H::F: Drop + Send,
 {
-    if !manner.shows || !matches!(line.verb, Verb::Rm | Verb::Mv) {
+    if !matches!(line.verb, Verb::Rm | Verb::Mv) {
         return shell.run(alloc, remote, folder, line);
     }
     let pool = Pool::without_tasks(alloc);

@@ -333,6 +333,17 @@ pub(crate) fn stopped_line(
     Ok(out)
 }
 
+/// What is said of a command in the midst of which the program was ended, where it isn't done in tasks.
+pub(crate) fn unsure_line(deep: bool) -> &'static [u8]
+    ensures { result.now ≡ unsure_line deep }
+{
+    if deep {
+        b"stopped: it may have been done, wholly or in part, or not\n"
+    } else {
+        b"stopped: it may have been done, or not\n"
+    }
+}
+
 /// A number behind what is there.
 fn put_count(alloc: Global, out: &mut Bytes, count: u64) -> Result<(), AllocError>
     ensures { OnOk result (out.new ≡ out.old ++ decimal count) }
