@@ -1,4 +1,5 @@
 pub mod Caching
 pub mod Ends
+pub mod Rows
 pub mod Tally
 pub mod Telling

@@ -1,0 +1,31 @@
+-- Worked rows: what a command came to, and what is said of one that was stopped.
+use Rattle.std.specs.Prelude.{◌≡◌, [], ◌∷◌, true, false, codes, refl}
+use Rattle.std.specs.Fmt.{digits}
+use Rattle.lbfs_shell.specs.Tally.{nothing_yet, with_visit}
+use Rattle.lbfs_shell.specs.Telling.{end_line, get_again, left_out_text, stopped_line, sync_again, unsure_line}
+
+pub all_done : end_line (record { files = 12; bytes = 20300000; undone = 0; is_fine = true }) 170000 ≡ codes "12 files, 20.3 MB; 0.17 MB on the line\n"
+unfolding digits
+all_done = refl
+
+pub some_undone : end_line (record { files = 87; bytes = 860000; undone = 313; is_fine = false }) 4400000 ≡ codes "87 files, 0.86 MB; 4.40 MB on the line; 313 not done\n"
+unfolding digits
+some_undone = refl
+
+-- a note of two names
+pub two_undone : with_visit (record { files = 1; bytes = 2; undone = 3; is_fine = true }) (record { more = []; note = codes "/a: x\n/b: y\n"; news = []; files = 0; bytes = 0; is_off = false }) ≡ record { files = 1; bytes = 2; undone = 5; is_fine = false }
+two_undone = refl
+
+pub one_done : with_visit nothing_yet (record { more = []; note = []; news = codes "/a: stored\n"; files = 1; bytes = 7; is_off = false }) ≡ record { files = 1; bytes = 7; undone = 0; is_fine = true }
+one_done = refl
+
+pub put_goes_on : left_out_text 188 (sync_again true true (codes "./tree") (codes "tree" ∷ [])) ≡ codes "not begun: at least 188 more; to go on in lbfs shell: sync --delete ./tree /tree\n"
+unfolding digits
+put_goes_on = refl
+
+pub get_goes_on : stopped_line (record { files = 12; bytes = 50000; undone = 0; is_fine = true }) 188 (get_again true (codes "docs" ∷ []) (codes "./my docs")) ≡ codes "stopped: 12 of 200 files, 0.05 MB; to go on in lbfs shell: get -r /docs/. './my docs'\n"
+unfolding digits
+get_goes_on = refl
+
+pub removal_stopped : unsure_line false ≡ codes "stopped: it may have been done, or not\n"
+removal_stopped = refl
