@@ -1,6 +1,9 @@
 //! The tasks of a command, which its threads share: what is to do, what came of it so far, and the line that
 //! says so. No clause speaks of what is behind the lock, since another thread's turn may stand before and
-//! behind each.
+//! behind each; of what one turn makes of it `Jobs::settle` does.
+
+ghost use Rattle.std.specs.Prelude.{◌≡◌, ◌++◌, ◌||◌, [], true, false, length, reverse};
+ghost use Rattle.lbfs_shell.specs.Tally.{capped_sum, with_visit};
 
 use crate::tally::Tally;
 use crate::telling::{Glance, again_text, left_out_text, shown_line, stopped_line};
@@ -70,20 +73,28 @@ impl Jobs {
         }
     }
 
-    /// The tasks that came go to those that are to do.
-    fn add(&mut self, more: Items<Task>) {
+    /// The tasks that came go to those that are to do, the first of them as the next one.
+    fn add(&mut self, more: Items<Task>)
+        ensures came { self.new.is_starved ≡ false → self.new.tasks.items ≡ self.old.tasks.items ++ reverse more }
+        ensures off { self.new.is_off ≡ self.old.is_off }
+        ensures left { self.new.left_out ≡ self.old.left_out }
+        ensures tally { self.new.tally ≡ self.old.tally }
+    {
         let mut more = more.into_vec();
-        for _at in 0..more.len() {
-            if let Some(task) = more.pop() {
-                if self.tasks.push(task).is_err() {
-                    self.is_starved = true;
-                }
-            }
+        more.reverse();
+        if self.tasks.append(&mut more).is_err() {
+            self.is_starved = true;
         }
     }
 
     /// The tasks that are to do aren't begun.
-    fn leave_out(&mut self) {
+    fn leave_out(&mut self)
+        ensures none { self.new.tasks.items ≡ [] }
+        ensures left { self.new.left_out ≡ capped_sum self.old.left_out (length self.old.tasks.items) }
+        ensures off { self.new.is_off ≡ self.old.is_off }
+        ensures starved { self.new.is_starved ≡ self.old.is_starved }
+        ensures tally { self.new.tally ≡ self.old.tally }
+    {
         let count = self.tasks.len() as u64;
         self.left_out = self.left_out.saturating_add(count);
         self.tasks.clear();
@@ -109,14 +120,15 @@ impl Jobs {
         }
     }
 
-    /// What a task came to.
-    fn note_done<P: Screen + Keeps>(&mut self, alloc: Global, screen: &P, visited: Visited) {
+    /// What a task came to counts, and what comes of it is to do. Once there is no server nothing is.
+    fn settle(&mut self, alloc: Global, visited: Visited)
+        ensures tally { self.new.tally ≡ with_visit self.old.tally visited }
+        ensures off { self.new.is_off ≡ (self.old.is_off || visited.is_off) }
+        ensures none { self.new.is_off ≡ true → self.new.tasks.items ≡ [] }
+        ensures all { self.new.is_starved ≡ false → capped_sum self.new.left_out (length self.new.tasks.items) ≡ capped_sum (capped_sum self.old.left_out (length self.old.tasks.items)) (length visited.more) }
+    {
         self.busy = self.busy.saturating_sub(1);
         self.tally = self.tally.with(&visited);
-        if !self.is_quiet {
-            self.say(screen, visited.news.as_slice());
-        }
-        self.say(screen, visited.note.as_slice());
         self.is_off = self.is_off || visited.is_off;
         let mut visited = visited;
         let more = mem::replace(&mut visited.more, Items::new(alloc));
@@ -125,6 +137,15 @@ impl Jobs {
         if self.is_off || self.is_starved {
             self.leave_out();
         }
+    }
+
+    /// A task was done, which is said.
+    fn note_done<P: Screen + Keeps>(&mut self, alloc: Global, screen: &P, visited: Visited) {
+        if !self.is_quiet {
+            self.say(screen, visited.news.as_slice());
+        }
+        self.say(screen, visited.note.as_slice());
+        self.settle(alloc, visited);
         self.keep(alloc, screen);
     }
 }
