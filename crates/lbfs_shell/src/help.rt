@@ -38,7 +38,7 @@ Says in which directory of the server the shell stands.
 
 const LCD: &str = "lcd [LOCAL]
 Goes to a folder here, where LOCALs that begin with no slash begin from then
-on; without LOCAL it says which one that is.
+on; without LOCAL it says which one (. is where the shell began).
 ";
 
 const GET: &str = "get [-r] PATH [LOCAL]
