@@ -7,8 +7,6 @@ ghost use Rattle.lbfs_shell.specs.Ends.{HasLeft};
 
 use crate::outside::Outside;
 use crate::pool::Pool;
-use crate::tally::Tally;
-use crate::telling::unsure_line;
 use crate::watching::watch;
 use last_words::keeping::Keeps;
 use links::clock::Clock;
@@ -16,6 +14,8 @@ use links::rest::Rest;
 use shell_commands::shell::{Shell, Went};
 use shell_commands::visiting::visit;
 use shell_link::session::Session;
+use shell_telling::tally::Tally;
+use shell_telling::telling::unsure_line;
 use shell_walks::dials::Dials;
 use shell_walks::folder::{Folder, Folders};
 use shell_walks::remote::Remote;

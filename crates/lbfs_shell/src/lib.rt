@@ -3,8 +3,8 @@
 //!
 //! What a command makes of the server's tree and of the host's files are the walks of `shell_walks`, over
 //! the client of `shell_link`. Here is what runs them: `running` goes through the lines; `pool` has the
-//! tasks of one command, which the threads of `crew` share; `telling` has the lines that say how far it is,
-//! and `watching` shows them; `help` is what there is to type.
+//! tasks of one command, which the threads of `crew` share; `watching` shows how far it is, in the lines of
+//! `shell_telling`; `help` is what there is to type.
 #![tactic(auto)]
 
 mod caching;
@@ -14,6 +14,4 @@ pub mod outside;
 mod pool;
 pub mod running;
 mod saying;
-mod tally;
-mod telling;
 mod watching;

@@ -3,13 +3,13 @@
 //! behind each; of what one turn makes of it `Jobs::settle` does.
 
 ghost use Rattle.std.specs.Prelude.{◌≡◌, ◌++◌, ◌||◌, [], true, false, length, reverse};
-ghost use Rattle.lbfs_shell.specs.Tally.{capped_sum, with_visit};
+ghost use Rattle.shell_telling.specs.Tally.{capped_sum, with_visit};
 
-use crate::tally::Tally;
-use crate::telling::{Glance, again_text, left_out_text, shown_line, stopped_line};
 use last_words::keeping::Keeps;
 use lb_base::items::{Bytes, Items};
 use shell_commands::visiting::Visited;
+use shell_telling::tally::Tally;
+use shell_telling::telling::{Glance, again_text, left_out_text, shown_line, stopped_line};
 use shell_walks::screen::Screen;
 use shell_walks::tasks::Task;
 use std::alloc::{AllocError, Global};

@@ -1,8 +1,8 @@
 -- Worked rows: what a command came to, and what is said of one that was stopped.
 use Rattle.std.specs.Prelude.{◌≡◌, [], ◌∷◌, true, false, codes, refl}
 use Rattle.std.specs.Fmt.{digits}
-use Rattle.lbfs_shell.specs.Tally.{nothing_yet, with_visit}
-use Rattle.lbfs_shell.specs.Telling.{end_line, get_again, left_out_text, stopped_line, sync_again, unsure_line}
+use Rattle.shell_telling.specs.Tally.{nothing_yet, with_visit}
+use Rattle.shell_telling.specs.Telling.{end_line, get_again, left_out_text, stopped_line, sync_again, unsure_line}
 
 pub all_done : end_line (record { files = 12; bytes = 20300000; undone = 0; is_fine = true }) 170000 ≡ codes "12 files, 20.3 MB; 0.17 MB on the line\n"
 unfolding digits
@@ -23,7 +23,7 @@ pub put_goes_on : left_out_text 188 (sync_again true true (codes "./tree") (code
 unfolding digits
 put_goes_on = refl
 
-pub get_goes_on : stopped_line (record { files = 12; bytes = 50000; undone = 0; is_fine = true }) 188 (get_again true (codes "docs" ∷ []) (codes "./my docs")) ≡ codes "stopped: 12 of 200 files, 0.05 MB; to go on in lbfs shell: get -r /docs/. './my docs'\n"
+pub get_goes_on : stopped_line (record { files = 12; bytes = 50000; undone = 0; is_fine = true }) 188 (get_again true (codes "docs" ∷ []) (codes "./docs")) ≡ codes "stopped: 12 of 200 files, 0.05 MB; to go on in lbfs shell: get -r /docs/. ./docs\n"
 unfolding digits
 get_goes_on = refl
 

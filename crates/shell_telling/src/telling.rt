@@ -1,9 +1,9 @@
 //! The lines that say how far a command is, and what it came to: `specs/Telling.antt`.
 
 ghost use Rattle.std.specs.Prelude.{◌≡◌, ◌++◌, IfOk, OnOk, codes, decimal};
-ghost use Rattle.lbfs_shell.specs.Telling.{count_text, big_text, middle_text, size_text, undone_text, end_line, rate_text, left_of, left_text, files_text, line_part, pace_text, progress_line, waits_text, waiting_line, shown_line, left_out_text, stopped_line, unsure_line};
-ghost use Rattle.lbfs_shell.specs.Telling.{delete_words, again_words, sync_again, get_again, again_text};
-ghost use Rattle.lbfs_shell.specs.Telling.{prompt_text, number_text, line_text};
+ghost use Rattle.shell_telling.specs.Telling.{count_text, big_text, middle_text, size_text, undone_text, counts_text, end_line, rate_text, left_of, left_text, files_text, line_part, pace_text, progress_line, waits_text, waiting_line, shown_line, left_out_text, stopped_line, unsure_line};
+ghost use Rattle.shell_telling.specs.Telling.{delete_words, again_words, sync_again, get_again, again_text};
+ghost use Rattle.shell_telling.specs.Telling.{prompt_text, number_text, line_text};
 
 use crate::tally::Tally;
 use lb_base::items::{Bytes, Items, Name};
@@ -15,16 +15,16 @@ use std::fmt::Write;
 
 /// How far a command is.
 #[derive(Clone, Copy)]
-pub(crate) struct Glance {
-    pub(crate) tally: Tally,
+pub struct Glance {
+    pub tally: Tally,
     /// How many tasks are known that aren't done.
-    pub(crate) left: u64,
+    pub left: u64,
     /// How many bytes went over the line.
-    pub(crate) wire: u64,
+    pub wire: u64,
     /// How many milliseconds it took.
-    pub(crate) spent: u64,
+    pub spent: u64,
     /// For how many milliseconds no byte has gone over the line.
-    pub(crate) still: u64,
+    pub still: u64,
 }
 
 /// Behind how many such milliseconds it is said that the server is waited for.
@@ -97,19 +97,27 @@ fn undone_text(alloc: Global, count: u64) -> Result<Bytes, AllocError>
     Ok(Items::from_vec(text.into_bytes()))
 }
 
-/// The line at a command's end.
-pub(crate) fn end_line(alloc: Global, tally: Tally, wire: u64) -> Result<Bytes, AllocError>
-    ensures { IfOk result (λ text. text ≡ end_line tally wire) }
+/// What is in its place now, and what went over the line for it.
+fn counts_text(alloc: Global, tally: Tally, wire: u64) -> Result<Bytes, AllocError>
+    ensures { IfOk result (λ text. text ≡ counts_text tally wire) }
 {
     let mut out = count_text(alloc, tally.files, "file")?;
     let contents = size_text(alloc, tally.bytes)?;
     let line = size_text(alloc, wire)?;
-    let undone = undone_text(alloc, tally.undone)?;
     out.extend_from_slice(b", ")?;
     out.extend_from_slice(contents.as_slice())?;
     out.extend_from_slice(b"; ")?;
     out.extend_from_slice(line.as_slice())?;
     out.extend_from_slice(b" on the line")?;
+    Ok(out)
+}
+
+/// The line at a command's end.
+pub fn end_line(alloc: Global, tally: Tally, wire: u64) -> Result<Bytes, AllocError>
+    ensures { IfOk result (λ text. text ≡ end_line tally wire) }
+{
+    let mut out = counts_text(alloc, tally, wire)?;
+    let undone = undone_text(alloc, tally.undone)?;
     out.extend_from_slice(undone.as_slice())?;
     out.extend_from_slice(b"\n")?;
     Ok(out)
@@ -216,11 +224,7 @@ fn waiting_line(alloc: Global) -> Result<Bytes, AllocError>
 }
 
 /// How far a command is, where there is something to show: of one that counts no files, only that it waits.
-pub(crate) fn shown_line(
-    alloc: Global,
-    counts: bool,
-    glance: Glance,
-) -> Result<Option<Bytes>, AllocError>
+pub fn shown_line(alloc: Global, counts: bool, glance: Glance) -> Result<Option<Bytes>, AllocError>
     ensures { IfOk result (λ line. line ≡ shown_line counts glance) }
 {
     if counts {
@@ -288,7 +292,7 @@ fn get_again(alloc: Global, deep: bool, path: &[Name], local: &str) -> Result<By
 }
 
 /// What goes on with a task, where it was ended in the midst of what came from it.
-pub(crate) fn again_text(alloc: Global, task: &Task) -> Result<Bytes, AllocError>
+pub fn again_text(alloc: Global, task: &Task) -> Result<Bytes, AllocError>
     ensures { IfOk result (λ text. text ≡ again_text task.now) }
 {
     match task {
@@ -314,7 +318,7 @@ pub(crate) fn again_text(alloc: Global, task: &Task) -> Result<Bytes, AllocError
 }
 
 /// What is said of a command in the midst of which the program was ended.
-pub(crate) fn stopped_line(
+pub fn stopped_line(
     alloc: Global,
     tally: Tally,
     left: u64,
@@ -334,7 +338,7 @@ pub(crate) fn stopped_line(
 }
 
 /// What is said of a command in the midst of which the program was ended, where it isn't done in tasks.
-pub(crate) fn unsure_line(deep: bool) -> &'static [u8]
+pub fn unsure_line(deep: bool) -> &'static [u8]
     ensures { result.now ≡ unsure_line deep }
 {
     if deep {
@@ -354,7 +358,7 @@ fn put_count(alloc: Global, out: &mut Bytes, count: u64) -> Result<(), AllocErro
 }
 
 /// What is said of tasks that weren't begun, and were known: a directory among them may have had many more.
-pub(crate) fn left_out_text(alloc: Global, count: u64, again: &[u8]) -> Result<Bytes, AllocError>
+pub fn left_out_text(alloc: Global, count: u64, again: &[u8]) -> Result<Bytes, AllocError>
     ensures { IfOk result (λ text. text ≡ left_out_text count again.now) }
 {
     let mut out = Items::copy_of(alloc, b"not begun: at least ")?;
@@ -366,7 +370,7 @@ pub(crate) fn left_out_text(alloc: Global, count: u64, again: &[u8]) -> Result<B
 }
 
 /// The prompt of a shell that stands in this directory.
-pub(crate) fn prompt_text(alloc: Global, place: &[Name]) -> Result<Bytes, AllocError>
+pub fn prompt_text(alloc: Global, place: &[Name]) -> Result<Bytes, AllocError>
     ensures { IfOk result (λ text. text ≡ prompt_text place.now) }
 {
     let mut out = Items::copy_of(alloc, b"lbfs:")?;
@@ -386,7 +390,7 @@ fn number_text(alloc: Global, number: u64) -> Result<Bytes, AllocError>
 }
 
 /// A line as it is named: by its number, and by its first word, if one was read.
-pub(crate) fn line_text(alloc: Global, number: u64, first: &[u8]) -> Result<Bytes, AllocError>
+pub fn line_text(alloc: Global, number: u64, first: &[u8]) -> Result<Bytes, AllocError>
     ensures { IfOk result (λ text. text ≡ line_text number first.now) }
 {
     let mut out = number_text(alloc, number)?;

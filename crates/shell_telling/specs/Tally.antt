@@ -1,7 +1,7 @@
 -- What the tasks of a command came to.
 use Rattle.std.specs.Prelude.{ℕ, ◌+◌, ◌-◌, ◌^◌, ◌&&◌, ◌||◌, ◌==◌, List, Bool, min, length, nat_lt, true, count_by}
 use Rattle.shell_commands.specs.declared.visiting.Visited.{Visited}
-use Rattle.lbfs_shell.specs.declared.tally.Tally.{Tally}
+use Rattle.shell_telling.specs.declared.tally.Tally.{Tally}
 
 abbrev pub nothing_yet : Tally
 nothing_yet = record { files = 0; bytes = 0; undone = 0; is_fine = true }

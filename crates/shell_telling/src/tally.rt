@@ -1,21 +1,21 @@
 //! What the tasks of a command came to so far.
 
 ghost use Rattle.std.specs.Prelude.{◌≡◌, true};
-ghost use Rattle.lbfs_shell.specs.Tally.{nothing_yet, lines_of, with_visit, capped_sum, is_told};
+ghost use Rattle.shell_telling.specs.Tally.{nothing_yet, lines_of, with_visit, capped_sum, is_told};
 
 use shell_commands::visiting::Visited;
 
 /// What tasks came to.
 #[derive(Clone, Copy)]
-pub(crate) struct Tally {
+pub struct Tally {
     /// How many files were stored, fetched or left as they are.
-    pub(crate) files: u64,
+    pub files: u64,
     /// How many bytes these have.
-    pub(crate) bytes: u64,
+    pub bytes: u64,
     /// How many names were said that weren't stored, fetched or removed, or are passed over.
-    pub(crate) undone: u64,
+    pub undone: u64,
     /// Whether all was done.
-    pub(crate) is_fine: bool,
+    pub is_fine: bool,
 }
 
 /// How many names a note says: a line for each.
@@ -27,7 +27,7 @@ fn lines_of(note: &[u8]) -> u64
 
 impl Tally {
     /// Nothing was done yet.
-    pub(crate) fn new() -> Tally
+    pub fn new() -> Tally
         ensures { result ≡ nothing_yet }
     {
         Tally {
@@ -39,7 +39,7 @@ impl Tally {
     }
 
     /// The same with what a task came to.
-    pub(crate) fn with(self, visited: &Visited) -> Tally
+    pub fn with(self, visited: &Visited) -> Tally
         ensures { result ≡ with_visit self visited.now }
     {
         let undone = lines_of(visited.note.as_slice());
@@ -52,7 +52,7 @@ impl Tally {
     }
 
     /// Whether it is told at the end: where nothing was done, and why was said, it needn't be.
-    pub(crate) fn is_told(self) -> bool
+    pub fn is_told(self) -> bool
         ensures { result ≡ is_told self }
     {
         self.is_fine || self.files > 0

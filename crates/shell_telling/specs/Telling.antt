@@ -4,9 +4,9 @@ use Rattle.shell_words.specs.Quoting.{quoted}
 use Rattle.shell_walks.specs.Telling.{path_text}
 use Rattle.shell_walks.specs.declared.tasks.Task.{Task}
 use Rattle.shell_walks.specs.declared.tasks.Task.TheVariants as task
-use Rattle.lbfs_shell.specs.declared.tally.Tally.{Tally}
-use Rattle.lbfs_shell.specs.declared.telling.Glance.{Glance}
-use Rattle.lbfs_shell.specs.Tally.{capped_sum}
+use Rattle.shell_telling.specs.declared.tally.Tally.{Tally}
+use Rattle.shell_telling.specs.declared.telling.Glance.{Glance}
+use Rattle.shell_telling.specs.Tally.{capped_sum}
 
 -- one of something, or so many of them
 abbrev pub count_text : ℕ → List ℕ → List ℕ
@@ -31,8 +31,11 @@ size_text n =
 abbrev pub undone_text : ℕ → List ℕ
 undone_text n = if nat_lt 0 n then codes "; " ++ decimal n ++ codes " not done" else []
 
+abbrev pub counts_text : Tally → (wire : ℕ) → List ℕ
+counts_text t wire = count_text t.files (codes "file") ++ codes ", " ++ size_text t.bytes ++ codes "; " ++ size_text wire ++ codes " on the line"
+
 abbrev pub end_line : Tally → (wire : ℕ) → List ℕ
-end_line t wire = count_text t.files (codes "file") ++ codes ", " ++ size_text t.bytes ++ codes "; " ++ size_text wire ++ codes " on the line" ++ undone_text t.undone ++ codes "\n"
+end_line t wire = counts_text t wire ++ undone_text t.undone ++ codes "\n"
 
 -- ---- how far a command is
 
