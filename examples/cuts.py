@@ -2,6 +2,7 @@
 import os
 import random
 import shutil
+import socket
 import subprocess
 import tempfile
 from concurrent.futures import ThreadPoolExecutor
@@ -9,9 +10,14 @@ from concurrent.futures import ThreadPoolExecutor
 import peer
 import power
 import runs
+from beside import Beside
 from changes import Tree
+from disks import memory
 from records import tree_in
-from runs import Server, Skipped, free_ports, same
+from runs import Server, Skipped, same
+
+# so many points after one another are looked at by one process, which sees the folders that come again
+RUN = 8
 
 
 def check(folder):
@@ -113,18 +119,35 @@ def put_folder(at, files):
             it.write(given)
 
 
-def loaded(at, files, port):
-    """The tree that a server of a folder with these files loads and leaves."""
-    put_folder(at, files)
-    is_whole(at)
-    with Server(at, sessions=1, port=port) as server:
+def serves(at):
+    """A server of a folder loads it, answers, and ends in order."""
+    with Server(at, sessions=1) as server:
         it = server.session()
         it.null()
         it.close()
         said = server.ended()
         if said[1] != 0:
             raise AssertionError(f"a server of it writes '{said[0].strip()}' and says {server.said()[:3]}")
-    return tree_in(at)
+
+
+class Starts:
+    """Starts of servers that load a folder, and then end in order, since their port is in use: a start is many times quicker
+    so than with a session, and leaves the same."""
+
+    def __enter__(self):
+        self.listener = socket.create_server(("127.0.0.1", 0))
+        self.port = self.listener.getsockname()[1]
+        return self
+
+    def __exit__(self, *_):
+        self.listener.close()
+
+    def loads(self, at):
+        words = [runs.PROGRAM, "serve", "--port", str(self.port), "--term", "1", "--sessions", "1", "--store", at]
+        ran = subprocess.run(words, stdin=subprocess.DEVNULL, capture_output=True, timeout=peer.PATIENCE)
+        said = ran.stderr.decode()
+        if ran.returncode != 7 or "can't listen there" not in said:
+            raise AssertionError(f"a start ends with status {ran.returncode}, and says '{said.strip()[:300]}'")
 
 
 class Cuts:
@@ -133,12 +156,13 @@ class Cuts:
     def __enter__(self):
         if not power.can_trace():
             raise Skipped("strace can't be had")
-        memory = "/dev/shm" if os.access("/dev/shm", os.W_OK) else None
-        self.top = tempfile.mkdtemp(prefix="lbfs-examples-", dir=memory)
-        self.trace, self.seen, self.count = f"{self.top}/trace", {}, 0
+        self.top = tempfile.mkdtemp(prefix="lbfs-examples-", dir=memory())
+        self.trace, self.left, self.seen = f"{self.top}/trace", f"{self.top}/left", {}
+        self.starts = Starts().__enter__()
         return self
 
     def __exit__(self, kind, *_):
+        self.starts.__exit__()
         if kind is AssertionError and "KEEP" in os.environ:
             shutil.copytree(self.top, os.environ["KEEP"], dirs_exist_ok=True)
         shutil.rmtree(self.top, ignore_errors=True)
@@ -147,27 +171,55 @@ class Cuts:
         os.mkdir(f"{self.top}/store")
         return f"{self.top}/store"
 
-    def trees(self, folders, is_told):
-        """The trees that these folders load as, each looked at once whatever is there of the reserve. Once anything was
-        told the server's term is noted there."""
-        keys = []
-        for files in folders:
-            if is_told and files.get(b".term") != b"1\n":
-                raise AssertionError(f"a cut leaves the term {files.get(b'.term')}")
-            keys.append(hash(tuple(sorted(it for it in files.items() if not it[0].startswith(b"reserve")))))
-        self.count += len(keys)
-        new = {key: files for key, files in zip(keys, folders) if key not in self.seen}
-        places = [f"{self.top}/left{at}" for at in range(len(new))]
-        with ThreadPoolExecutor(8) as pool:
-            self.seen.update(zip(new, pool.map(loaded, places, new.values(), free_ports(len(new)))))
-        return [self.seen[key] for key in keys]
+    def tree(self, files, is_fixed):
+        """The tree that a server of these files loads and leaves, each looked at once whatever is there of the reserve. What is
+        left in a fixed way is served too."""
+        key = hash(tuple(sorted(it for it in files.items() if not it[0].startswith(b"reserve"))))
+        found, was_served = self.seen.get(key, (None, False))
+        if found is None or is_fixed and not was_served:
+            put_folder(self.left, files)
+            is_whole(self.left)
+            (serves if is_fixed else self.starts.loads)(self.left)
+            found = tree_in(self.left)
+            self.seen[key] = found, is_fixed
+        return found
 
-    def look(self, sessions, points, least):
-        """At each of these points each folder has what each session was told, and no half of what it asked for next."""
-        for told, folders in points:
-            xids = told + [set()] * (len(sessions) - len(told))
-            for tree in self.trees(folders, any(told)):
-                if not all(it.allows(tree, of) for it, of in zip(sessions, xids)):
-                    raise AssertionError(f"a cut after {[it.told(of) for it, of in zip(sessions, xids)]} changes leaves {sorted(tree)[:12]}")
-        if self.count < least:
-            raise AssertionError(f"{self.count} folders were looked at")
+    def part(self, number, parts, points, judge, samples, seed):
+        """Looks at a part of the points; how many folders there were."""
+        count, self.left = 0, f"{self.left}{number}"
+        for at, trace in enumerate(points):
+            if at // RUN % parts != number:
+                continue
+            told = trace.told()
+            for is_fixed, all_of in zip((True, False), power.folders(trace, samples, random.Random(f"{seed} {at}"))):
+                for files in all_of:
+                    # once anything was told the server's term is noted there
+                    if any(told) and files.get(b".term") != b"1\n":
+                        raise AssertionError(f"a cut leaves the term {files.get(b'.term')}")
+                    judge(told, self.tree(files, is_fixed))
+                    count += 1
+        return count
+
+    def look(self, folder, judge, samples, seed, least, **how):
+        """At each point of the trace `judge` is asked of each folder by what was told by then, and the tree that it loads as. Of any part of what wasn't flushed
+        there are so many folders a point, beside those of the fixed ways."""
+        all_of, parts = power.events(self.trace), len(os.sched_getaffinity(0))
+
+        def work(number):
+            return lambda: self.part(number, parts, power.steps(all_of, folder, **how), judge, samples, seed)
+
+        with Beside([work(number) for number in range(parts)]) as works:
+            count = sum(works.all())
+        if count < least:
+            raise AssertionError(f"{count} folders were looked at, and {least} at least were wanted")
+
+
+def keeps(sessions):
+    """Of a tree: it has what each session was told, and no half of what it asked for next."""
+
+    def judge(told, tree):
+        xids = told + [set()] * (len(sessions) - len(told))
+        if not all(it.allows(tree, of) for it, of in zip(sessions, xids)):
+            raise AssertionError(f"a cut after {[it.told(of) for it, of in zip(sessions, xids)]} changes leaves {sorted(tree)[:12]}")
+
+    return judge

@@ -9,14 +9,19 @@ from runs import Skipped
 SIZE = 2 << 20
 
 
+def memory():
+    """A folder of the machine's memory, where there is one."""
+    return "/dev/shm" if os.access("/dev/shm", os.W_OK) else None
+
+
 class Disk:
-    """A folder that is all of a small file system: one in memory (tmpfs), or ext4 in a file."""
+    """A folder that is all of a small file system: one in memory (tmpfs), or ext4 in a file of the memory."""
 
     def __init__(self, kind, size=SIZE):
         self.kind, self.size, self.top = kind, size, None
 
     def __enter__(self):
-        self.top = tempfile.mkdtemp(prefix="lbfs-examples-")
+        self.top = tempfile.mkdtemp(prefix="lbfs-examples-", dir=memory())
         os.mkdir(f"{self.top}/disk")
         try:
             self.make()
@@ -43,3 +48,26 @@ class Disk:
 
 def run(words):
     subprocess.run(words, check=True, stdout=subprocess.DEVNULL, stderr=subprocess.DEVNULL)
+
+
+def files_of(folder):
+    """What each file of a folder has."""
+    found = {}
+    for name in os.listdir(folder):
+        with open(f"{folder}/{name}", "rb") as it:
+            found[name] = it.read()
+    return found
+
+
+def copy_folder(folder, to):
+    """Makes a folder of files have those of another. It writes those alone that differ, once all of these are gone, since the
+    disk may be full."""
+    wanted, there = files_of(folder), files_of(to)
+    for name, given in there.items():
+        if wanted.get(name) == given:
+            del wanted[name]
+        else:
+            os.remove(f"{to}/{name}")
+    for name, given in wanted.items():
+        with open(f"{to}/{name}", "wb") as it:
+            it.write(given)

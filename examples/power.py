@@ -73,16 +73,31 @@ def reads(path, front):
     return {name: (came[name], len(readers[name])) for name in came}, len(set().union(*readers.values()))
 
 
+class Call:
+    """A call of a trace: its name, its words with what stands in quotes apart, and what it answered."""
+
+    def __init__(self, name, text, answer):
+        self.name, self.strings, self.answer = name, strings(text), answer
+        self.words = STRING.sub('""', text)
+        front = re.match(r"\d+", text)
+        self.fd = int(front[0]) if front else None
+
+    def numbers(self):
+        return [int(it) for it in re.findall(r"(?:^|, )(-?\d+)(?=,|$)", self.words)]
+
+    def given(self):
+        """What it wrote."""
+        return b"".join(self.strings)[: self.answer]
+
+
 class Inode:
     """A file's bytes: those that are on the disk, and what was done to them since."""
 
     def __init__(self):
-        self.sure, self.pending, self.now = b"", [], bytearray()
-        self.flushed = 0
+        self.sure, self.pending, self.flushed = b"", [], 0
 
     def do(self, step):
         self.pending.append(step)
-        apply(self.now, step, range(0, 0), whole=True)
 
     def done(self):
         """How many steps there were."""
@@ -131,8 +146,8 @@ class Trace:
         front, _, name = path.rpartition(b"/")
         return name if front == self.folder else None
 
-    def opened(self, text, fd):
-        path = strings(text)[0]
+    def opened(self, call):
+        path, fd = call.strings[0], call.answer
         name = self.name_of(path)
         if path.rstrip(b"/") == self.folder:
             self.open[fd] = "folder"
@@ -142,7 +157,7 @@ class Trace:
             if name not in self.names:
                 self.set_name(("set", name, Inode()))
             inode = self.names[name]
-            if "O_TRUNC" in text:
+            if "O_TRUNC" in call.words:
                 inode.do(("cut", 0, b""))
             # what the reserve has is no matter, and much
             self.open[fd] = "reserve" if name.startswith(b"reserve") else [inode, 0]
@@ -153,54 +168,54 @@ class Trace:
 
     # ---- steps
 
-    def take(self, call, text, answer):
+    def take(self, call):
         """A call that was done. Whether it changed what a cut may leave."""
-        fd = int(text.split(",")[0]) if re.match(r"\d+", text) else None
-        if call in ("openat", "open", "creat"):
+        fd, name, answer = call.fd, call.name, call.answer
+        if name in ("openat", "open", "creat"):
             if answer >= 0:
-                self.opened(text, answer)
-                return "O_CREAT" in text
+                self.opened(call)
+                return "O_CREAT" in call.words
         elif answer < 0:
             return False
-        elif call == "close":
+        elif name == "close":
             self.open.pop(fd, None)
             self.connections.pop(fd, None)
-        elif call in ("dup", "dup2", "dup3") or call == "fcntl" and "F_DUPFD" in text:
+        elif name in ("dup", "dup2", "dup3") or name == "fcntl" and "F_DUPFD" in call.words:
             for held in (self.open, self.connections):
                 if fd in held:
                     held[answer] = held[fd]
-        elif call in ("accept", "accept4"):
+        elif name in ("accept", "accept4"):
             self.connections[answer] = len(self.sent)
             self.sent.append(bytearray())
-        elif call in ("rename", "renameat", "renameat2"):
-            old, new = (self.name_of(it) for it in strings(text)[:2])
+        elif name in ("rename", "renameat", "renameat2"):
+            old, new = (self.name_of(it) for it in call.strings[:2])
             self.set_name(("move", old, new, self.names[old]))
             return True
-        elif call in ("link", "linkat"):
-            old, new = (self.name_of(it) for it in strings(text)[:2])
+        elif name in ("link", "linkat"):
+            old, new = (self.name_of(it) for it in call.strings[:2])
             self.set_name(("set", new, self.names[old]))
             return True
-        elif call in ("unlink", "unlinkat"):
-            name = self.name_of(strings(text)[0])
-            if name is not None:
-                self.set_name(("drop", name))
+        elif name in ("unlink", "unlinkat"):
+            gone = self.name_of(call.strings[0])
+            if gone is not None:
+                self.set_name(("drop", gone))
                 return True
         elif isinstance(self.open.get(fd), list):
-            return self.on_file(self.open[fd], call, text, answer)
+            return self.on_file(self.open[fd], call)
         return False
 
-    def on_file(self, held, call, text, answer):
+    @staticmethod
+    def on_file(held, call):
         inode = held[0]
-        numbers = [int(it) for it in re.findall(r"(?:^|, )(-?\d+)(?=,|$)", STRING.sub('""', text))]
-        if call in ("write", "writev"):
-            inode.do(("write", held[1], b"".join(strings(text))[:answer]))
-            held[1] += answer
-        elif call in ("pwrite64", "pwritev"):
-            inode.do(("write", numbers[-1], b"".join(strings(text))[:answer]))
-        elif call == "ftruncate":
-            inode.do(("cut", numbers[-1], b""))
-        elif call == "lseek":
-            held[1] = answer
+        if call.name in ("write", "writev"):
+            inode.do(("write", held[1], call.given()))
+            held[1] += call.answer
+        elif call.name in ("pwrite64", "pwritev"):
+            inode.do(("write", call.numbers()[-1], call.given()))
+        elif call.name == "ftruncate":
+            inode.do(("cut", call.numbers()[-1], b""))
+        elif call.name == "lseek":
+            held[1] = call.answer
             return False
         else:
             return False
@@ -222,10 +237,10 @@ class Trace:
         held = self.open.get(fd)
         return self.flushed_names + len(self.pending_names), held[0].done() if isinstance(held, list) else 0
 
-    def sends(self, fd, text):
+    def sends(self, call):
         """Something is sent on a connection: an answer counts as told as soon as it begins to leave."""
-        if fd in self.connections:
-            self.sent[self.connections[fd]].extend(b"".join(strings(text)))
+        if call.fd in self.connections:
+            self.sent[self.connections[call.fd]].extend(b"".join(call.strings))
 
     def told(self):
         """Of each connection the xids that were answered."""
@@ -256,6 +271,8 @@ def left(trace, chance, way):
 
 def bytes_left(inode, chance, share, is_cut):
     """What is left of a file's bytes; where it is cut each shortening is done, whatever else is."""
+    if not inode.pending:
+        return inode.sure
     held = bytearray(inode.sure)
     for step in inode.pending:
         if is_cut and step[0] == "cut" or chance.random() < share:
@@ -280,8 +297,9 @@ def answered(given):
 def events(path):
     """The beginnings and the ends of a trace's calls, in order."""
     all_of = []
-    for first, last, call, text, answer in calls(path):
-        all_of += [(first, 0, call, text, answer), (last, 1, call, text, answer)]
+    for first, last, name, text, answer in calls(path):
+        call = Call(name, text, answer)
+        all_of += [(first, 0, call), (last, 1, call)]
     return sorted(all_of, key=lambda it: it[:2])
 
 
@@ -290,20 +308,23 @@ def is_shortened(trace):
     return b"log" in trace.names and any(step[0] == "cut" for step in trace.names[b"log"].pending)
 
 
-def points(path, folder, samples, chance, before=None, wanted=lambda trace: True):
-    """For each point of a trace at which something changed, and which is wanted: of each connection the xids that were
-    answered by then, and so many folders that a cut may leave."""
+def steps(all_of, folder, before=None, wanted=lambda trace: True):
+    """A trace, by its events, at each point at which something changed, and which is wanted."""
     trace, begun = Trace(folder, before or {}), {}
-    for _, is_end, call, text, answer in events(path):
-        fd = int(text.split(",")[0]) if re.match(r"\d+", text) else None
-        if not is_end and call in FLUSHES:
-            begun.setdefault((call, text), []).append(trace.marks(fd))
-        elif not is_end and call in SENDS:
-            trace.sends(fd, text)
-        elif is_end and call in FLUSHES:
-            marks = begun[call, text].pop(0)
-            if answer == 0:
-                trace.flushed(fd, marks)
-        elif is_end and trace.take(call, text, answer) and wanted(trace):
-            ways = [*WAYS, *(["cuts"] if is_shortened(trace) else []), *["any"] * samples]
-            yield trace.told(), [left(trace, chance, way) for way in ways[:samples]]
+    for _, is_end, call in all_of:
+        if not is_end and call.name in FLUSHES:
+            begun.setdefault((call.name, call.fd), []).append(trace.marks(call.fd))
+        elif not is_end and call.name in SENDS:
+            trace.sends(call)
+        elif is_end and call.name in FLUSHES:
+            marks = begun[call.name, call.fd].pop(0)
+            if call.answer == 0:
+                trace.flushed(call.fd, marks)
+        elif is_end and trace.take(call) and wanted(trace):
+            yield trace
+
+
+def folders(trace, samples, chance):
+    """What a cut may leave now: in each of the fixed ways, and then so many folders of any part."""
+    fixed = [*WAYS, *(["cuts"] if is_shortened(trace) else [])]
+    return [left(trace, chance, way) for way in fixed], [left(trace, chance, "any") for _ in range(samples)]

@@ -12,25 +12,27 @@ import threading
 import time
 import traceback
 
+from beside import Beside
 from peer import PATIENCE, Peer
 
 TOP = os.path.dirname(os.path.dirname(os.path.abspath(__file__)))
 PROGRAM = None
 
 
-def free_ports(count):
-    """So many ports that are free, no two the same."""
-    held = [socket.socket() for _ in range(count)]
-    for it in held:
-        it.bind(("127.0.0.1", 0))
-    ports = [it.getsockname()[1] for it in held]
-    for it in held:
-        it.close()
-    return ports
-
-
 def free_port():
-    return free_ports(1)[0]
+    """A port that is free now."""
+    with socket.socket() as it:
+        it.bind(("127.0.0.1", 0))
+        return it.getsockname()[1]
+
+
+def held_port():
+    """A socket on a port that is free, and that is told to nobody else until the socket is closed. A server may listen there all
+    the same, since both say that an address may be used again."""
+    held = socket.socket()
+    held.setsockopt(socket.SOL_SOCKET, socket.SO_REUSEADDR, 1)
+    held.bind(("127.0.0.1", 0))
+    return held
 
 
 def listens(port):
@@ -111,12 +113,13 @@ class Server(Run):
     else is said, so that no test waits for one that ended with its session."""
 
     def __init__(self, folder, sessions=1_000_000, port=None, under=(), more=(), term=1):
-        self.port = port or free_port()
-        words = ["serve", "--port", self.port, "--term", term, "--sessions", sessions, "--store", folder, *more]
-        super().__init__(words, under, stdin=subprocess.DEVNULL)
-        until = time.monotonic() + PATIENCE
-        while not listens(self.port) and self.process.poll() is None and time.monotonic() < until:
-            time.sleep(0.005)
+        with held_port() as held:
+            self.port = port or held.getsockname()[1]
+            words = ["serve", "--port", self.port, "--term", term, "--sessions", sessions, "--store", folder, *more]
+            super().__init__(words, under, stdin=subprocess.DEVNULL)
+            until = time.monotonic() + PATIENCE
+            while not listens(self.port) and self.process.poll() is None and time.monotonic() < until:
+                time.sleep(0.005)
 
     def session(self, **how):
         return Peer(self.port, **how)
@@ -262,7 +265,27 @@ def reason_to_skip():
     return None
 
 
-def main(name, about, tests, options=()):
+def outcome(test):
+    """What came of a test: `passed`, `failed` with its traceback, or `skipped` with the reason."""
+    try:
+        test()
+    except Skipped as reason:
+        return "skipped", str(reason)
+    except Exception:  # whatever it is, the others are looked at too
+        return "failed", traceback.format_exc()
+    return "passed", ""
+
+
+def outcomes(tests, beside):
+    """The tests, each with what came of it: first those one after the other, and then those that ran beside them from the
+    beginning, each in a process of its own."""
+    with Beside([lambda test=test: outcome(test) for test in beside]) as works:
+        for test in tests:
+            yield test, outcome(test)
+        yield from zip(beside, works.all())
+
+
+def main(name, about, tests, options=(), beside=()):
     """Runs the tests that the words ask for, and answers the status."""
     global PROGRAM
     words = argparse.ArgumentParser(description=about, formatter_class=argparse.RawDescriptionHelpFormatter)
@@ -273,20 +296,19 @@ def main(name, about, tests, options=()):
     given = words.parse_args()
     found = subprocess.run([f"{TOP}/release/program"], stdout=subprocess.PIPE).stdout.decode().strip()
     PROGRAM = os.path.abspath(given.program or found) if given.program or found else None
-    passed = failed = 0
+    counts = {"passed": 0, "failed": 0, "skipped": 0}
     skipped = reason_to_skip()
     if skipped:
         print(f"examples/{name}: skipped, since {skipped}")
-    for test in () if skipped else tests:
-        if given.words and not any(word in test.__name__ for word in given.words):
-            continue
-        try:
-            test()
-            passed += 1
-        except Skipped as reason:
-            print(f"examples/{name}: skipped {test.__name__}, since {reason}")
-        except Exception:  # whatever it is, the others are looked at too
-            failed += 1
-            print(f"{test.__name__}:\n{traceback.format_exc()}")
-    print(f"{passed} passed, {failed} failed")
-    return 1 if failed else 0
+
+    def asked(of):
+        return [it for it in of if not skipped and (not given.words or any(word in it.__name__ for word in given.words))]
+
+    for test, (kind, why) in outcomes(asked(tests), asked(beside)):
+        counts[kind] += 1
+        if kind == "skipped":
+            print(f"examples/{name}: skipped {test.__name__}, since {why}")
+        elif kind == "failed":
+            print(f"{test.__name__}:\n{why}")
+    print(f"{counts['passed']} passed, {counts['failed']} failed")
+    return 1 if counts["failed"] else 0
