@@ -122,9 +122,10 @@ def put_folder(at, files):
 def serves(at):
     """A server of a folder loads it, answers, and ends in order."""
     with Server(at, sessions=1) as server:
-        it = server.session()
-        it.null()
-        it.close()
+        if server.process.poll() is None:
+            it = server.session()
+            it.null()
+            it.close()
         said = server.ended()
         if said[1] != 0:
             raise AssertionError(f"a server of it writes '{said[0].strip()}' and says {server.said()[:3]}")
@@ -180,7 +181,8 @@ class Cuts:
             put_folder(self.left, files)
             is_whole(self.left)
             (serves if is_fixed else self.starts.loads)(self.left)
-            found = tree_in(self.left)
+            # a start that can't listen looks at no term
+            found = tree_in(self.left, () if is_fixed else (".term~",))
             self.seen[key] = found, is_fixed
         return found
 
@@ -201,8 +203,8 @@ class Cuts:
         return count
 
     def look(self, folder, judge, samples, seed, least, **how):
-        """At each point of the trace `judge` is asked of each folder by what was told by then, and the tree that it loads as. Of any part of what wasn't flushed
-        there are so many folders a point, beside those of the fixed ways."""
+        """At each point of the trace `judge` is asked of each folder, by what was told by then and by the tree that it loads as.
+        There are those of the fixed ways, and so many of any part of what wasn't flushed."""
         all_of, parts = power.events(self.trace), len(os.sched_getaffinity(0))
 
         def work(number):

@@ -12,8 +12,8 @@ def read(path):
         return it.read()
 
 
-def tree_in(folder):
-    """What each path of a folder that isn't served has."""
+def tree_in(folder, others=()):
+    """What each path of a folder that isn't served has. Beside its records there may be these others."""
     nodes, contents, made = {}, {}, set()
     for name in os.listdir(folder):
         given = read(f"{folder}/{name}")
@@ -26,7 +26,7 @@ def tree_in(folder):
             contents[int(name[1:])] = given[8:]
         elif name[0] == "m" and name[1:].isdigit():
             made.add(int(name[1:]))
-        elif name != ".term":
+        elif name != ".term" and name not in others:
             raise AssertionError(f"{name} is left in a folder that was served")
 
     if any(contents.get(of) != b"" for of in made):
