@@ -148,7 +148,7 @@ impl<R: Eprint + Drop> Link for TcpLink<R> {
 
     fn twin(&mut self) -> Result<TcpLink<R>, Failed> {
         match self.stream.try_clone() {
-            Ok(stream) => Ok(TcpLink::new(stream, shared(&self.peer))),
+            Ok(stream) => Ok(TcpLink::new(stream, one_more_of(&self.peer))),
             Err(error) => {
                 self.lose(error);
                 self.faults = one_more(self.faults);
@@ -158,18 +158,10 @@ impl<R: Eprint + Drop> Link for TcpLink<R> {
     }
 }
 
-/// One owner more of a peer. Where there can be none more, nothing of it is told by that one.
-fn shared<R: Drop>(peer: &Option<Arc<Peer<R>>>) -> Option<Arc<Peer<R>>> {
-    match peer {
-        Some(peer) => Arc::try_clone(peer).ok(),
-        None => None,
-    }
-}
-
-/// One owner more of what is served.
-fn one_more_of(serving: &Option<Arc<Serving>>) -> Option<Arc<Serving>> {
-    match serving {
-        Some(serving) => Arc::try_clone(serving).ok(),
+/// One owner more of what there is, if anything. Where there can be none more, that one has none.
+fn one_more_of<T: Drop>(it: &Option<Arc<T>>) -> Option<Arc<T>> {
+    match it {
+        Some(it) => Arc::try_clone(it).ok(),
         None => None,
     }
 }
