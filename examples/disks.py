@@ -1,4 +1,5 @@
 """File systems of two mebibytes, or of fewer, where this machine lets one be made. `storing` uses them."""
+import errno
 import os
 import shutil
 import subprocess
@@ -50,24 +51,40 @@ def run(words):
     subprocess.run(words, check=True, stdout=subprocess.DEVNULL, stderr=subprocess.DEVNULL)
 
 
-def files_of(folder):
-    """What each file of a folder has."""
-    found = {}
-    for name in os.listdir(folder):
-        with open(f"{folder}/{name}", "rb") as it:
-            found[name] = it.read()
-    return found
+def pieces_of(path):
+    """What a file has: its length, how much room it takes, and its bytes but for what was never written of it."""
+    pieces, at = [], 0
+    with open(path, "rb") as it:
+        told = os.fstat(it.fileno())
+        while at < told.st_size:
+            try:
+                at = os.lseek(it.fileno(), at, os.SEEK_DATA)
+            except OSError:
+                break
+            end = os.lseek(it.fileno(), at, os.SEEK_HOLE)
+            pieces.append((at, os.pread(it.fileno(), end - at, at)))
+            at = end
+    return told.st_size, told.st_blocks, pieces
 
 
 def copy_folder(folder, to):
-    """Makes a folder of files have those of another. It writes those alone that differ, once all of these are gone, since the
-    disk may be full."""
-    wanted, there = files_of(folder), files_of(to)
-    for name, given in there.items():
-        if wanted.get(name) == given:
+    """Makes a folder of files have those of another, and answers whether there was room. It writes those alone that differ, once
+    all of these are gone."""
+    wanted = {name: pieces_of(f"{folder}/{name}") for name in os.listdir(folder)}
+    for name in os.listdir(to):
+        if wanted.get(name) == pieces_of(f"{to}/{name}"):
             del wanted[name]
         else:
             os.remove(f"{to}/{name}")
-    for name, given in wanted.items():
-        with open(f"{to}/{name}", "wb") as it:
-            it.write(given)
+    try:
+        for name, (size, _, pieces) in wanted.items():
+            with open(f"{to}/{name}", "wb") as it:
+                for at, given in pieces:
+                    it.seek(at)
+                    it.write(given)
+                it.truncate(size)
+    except OSError as error:
+        if error.errno != errno.ENOSPC:
+            raise
+        return False
+    return True
