@@ -132,8 +132,8 @@ def serves(at):
 
 
 class Starts:
-    """Starts of servers that load a folder, and then end in order, since their port is in use: a start is many times quicker
-    so than with a session, and leaves the same."""
+    """Starts of servers that load a folder, and then end in order, since their port is in use. It leaves what a server with
+    sessions leaves, but for the term, and is quicker by far."""
 
     def __enter__(self):
         self.listener = socket.create_server(("127.0.0.1", 0))
