@@ -195,8 +195,8 @@ class Cuts:
             told = trace.told()
             for is_fixed, all_of in zip((True, False), power.folders(trace, samples, random.Random(f"{seed} {at}"))):
                 for files in all_of:
-                    # once anything was told the server's term is noted there
-                    if any(told) and files.get(b".term") != b"1\n":
+                    # the server's term is there as a whole or not at all, and once anything was told it is there
+                    if files.get(b".term", b"" if any(told) else b"1\n") != b"1\n":
                         raise AssertionError(f"a cut leaves the term {files.get(b'.term')}")
                     judge(told, self.tree(files, is_fixed))
                     count += 1
