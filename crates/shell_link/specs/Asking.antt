@@ -144,22 +144,37 @@ abbrev pub AsksUnless : Option Why → State → Command → Answer → State �
 AsksUnless (Some w) s c a new = (a ≡ answer.Failed w) × (new ≡ s)
 AsksUnless None s c a new = Once s c a new
 
+-- the look, and then the command, unless nothing else is asked for
 pub record Tries (old : State) (c : Command) (a : Answer) (new : State) : Type 0 where
   pub looked : Answer
   pub tried : State
   pub look : Once old looks looked tried
   pub asks : AsksUnless (stops looked) tried c a new
 
--- on a connection that was joined just now: one in the place of another, which was lost, is tried
-abbrev pub AsksJoined : (was_joined : Bool) → State → Command → Answer → State → Type 0
-AsksJoined true = Tries
-AsksJoined false = Once
+abbrev pub AsksOn : (tries : Bool) → State → Command → Answer → State → Type 0
+AsksOn true = Tries
+AsksOn false = Once
 
--- Where no connection is there one is joined first, or none can be. Where it was lost meanwhile, what changes nothing is asked once more. Behind it, whether one was joined so far.
-pub data Asks (was_joined : Bool) (old : State) (c : Command) : Answer → State → (is_joined : Bool) → Type 0 where
-  at_once : (a : Answer) (new : State) → Once old c a new → Asks was_joined old c a new was_joined
-  joined_first : (a : Answer) (new : State) → is_local c ≡ false → AsksJoined was_joined (joined old) c a new → Asks was_joined old c a new true
-  again : (s : State) (b a : Answer) (new : State) (is_joined : Bool) → rereads c ≡ true → is_lost b ≡ true → Asks was_joined old c b s is_joined → Tries (joined s) c a new → Asks was_joined old c a new true
+-- a change is the first that is asked for on its connection: that is tried
+abbrev pub look_if : (is_local rereads is_fresh : Bool) → Bool
+look_if true r f = false
+look_if false true f = false
+look_if false false f = f
+
+abbrev pub wants_look : (is_fresh : Bool) → Command → Bool
+wants_look f c = look_if (is_local c) (rereads c) f
+
+-- what asks no server leaves a connection as fresh as it is
+abbrev pub fresh_if : (is_local is_fresh : Bool) → Bool
+fresh_if true f = f
+fresh_if false f = false
+
+-- Where no connection is there one is joined first, or none can be. Where it was lost meanwhile, what changes nothing is asked again on another, which is tried. Before it and behind it, whether a connection is fresh: joined, and no server was asked for anything on it.
+pub data Asks (is_fresh : Bool) (old : State) (c : Command) : Answer → State → Bool → Type 0 where
+  at_once : (a : Answer) (new : State) → AsksOn (wants_look is_fresh c) old c a new → Asks is_fresh old c a new (fresh_if (is_local c) is_fresh)
+  unjoined : (a : Answer) (new : State) → is_local c ≡ false → old.linked ≡ false → Once old c a new → Asks is_fresh old c a new false
+  joined_first : (a : Answer) (new : State) → is_local c ≡ false → old.linked ≡ false → AsksOn (wants_look true c) (joined old) c a new → Asks is_fresh old c a new false
+  again : (s : State) (b a : Answer) (new : State) (f : Bool) → rereads c ≡ true → is_lost b ≡ true → Asks is_fresh old c b s f → Tries (joined s) c a new → Asks is_fresh old c a new false
 
 -- ---- hints, which nobody trusts
 
@@ -187,11 +202,11 @@ abbrev pub said_of : (changes_nothing : Bool) → Answer → Answer
 said_of b a = said_if (b && is_lost a) a
 
 -- a command, and before it what is kept is no more than one file may have, and the file that was closed last may be learned
-pub record AsksHinted (was_joined : Bool) (old : State) (c : Command) (a : Answer) (new : State) (is_joined : Bool) : Type 0 where
+pub record AsksHinted (is_fresh : Bool) (old : State) (c : Command) (a : Answer) (new : State) (f : Bool) : Type 0 where
   pub hinted : State
   pub hints : MayLearn (kept_within FILE_MOST old) hinted
   pub heard : Answer
-  pub asks : Asks was_joined hinted c heard new is_joined
+  pub asks : Asks is_fresh hinted c heard new f
   pub told : a ≡ said_of (rereads c) heard
 
 -- ---- leases, of which a shell wants none

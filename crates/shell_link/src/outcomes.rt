@@ -1,7 +1,7 @@
 //! What a shell makes of how a command ended, and which commands may be asked again: `specs/Asking.antt`.
 
 ghost use Rattle.std.specs.Prelude.{◌≡◌, true, IfOk, IfSome};
-ghost use Rattle.shell_link.specs.Asking.{fault_number, is_directory, done_as, answer_of, makes, is_lost, is_local, said_of, stops, reads, rereads};
+ghost use Rattle.shell_link.specs.Asking.{fault_number, is_directory, done_as, answer_of, makes, is_lost, is_local, said_of, stops, reads, rereads, look_if, wants_look};
 
 use crate::hearing::{Heard, listed_as};
 use client_state::step::{BadPeer, Outcome};
@@ -134,6 +134,14 @@ pub(crate) fn rereads(command: &Command) -> bool
         Command::Open(_) | Command::Rewrite(_) => true,
         _ => false,
     }
+}
+
+/// Whether a connection is tried before a command is asked for: before a change, where nothing was asked for on it
+/// yet.
+pub(crate) fn wants_look(is_fresh: bool, command: &Command) -> bool
+    ensures { result ≡ wants_look is_fresh command.now }
+{
+    is_fresh && !is_local(command) && !rereads(command)
 }
 
 /// What is told of a command: of one that changes nothing it needn't be said that it may have been done.

@@ -8,12 +8,14 @@ ghost use Rattle.client_state.specs.State.{State, start_with, local_bytes};
 ghost use Rattle.client_state.specs.Ending.{cut, joined};
 ghost use Rattle.wire.specs.declared.message.TheConstants.{LBFS_SPOKEN};
 ghost use Rattle.command_text.specs.declared.command.Command.{Command};
-ghost use Rattle.shell_link.specs.Asking.{answer_of, makes, told_of, kept, Sends, Runs, Once, Tries, AsksJoined, Asks, AsksHinted, MayLearn, MayOffer, MayWarm, rereads, NotesNothing, Leaves};
+ghost use Rattle.shell_link.specs.Asking.{answer_of, makes, told_of, kept, Sends, Runs, Once, Tries, AsksOn, Asks, AsksHinted, is_local, MayLearn, MayOffer, MayWarm, rereads, NotesNothing, Leaves};
 ghost use Rattle.shell_link.specs.Hearing.{nothing_heard};
 ghost use Rattle.shell_link.specs.declared.session.TheConstants.{DRIFT};
 
 use crate::hearing::{Heard, heed, nothing_heard};
-use crate::outcomes::{again_of, answer_of, is_local, is_lost, makes, rereads, said_of, stops};
+use crate::outcomes::{
+    again_of, answer_of, is_local, is_lost, makes, rereads, said_of, stops, wants_look,
+};
 use client_state::step::{ClientStep, Ended, Outcome};
 use command_text::command::Command;
 use command_text::path::PathCommand;
@@ -52,8 +54,8 @@ struct Line<L> {
 pub struct Session<'e, D: Dials, C> {
     client: Client,
     line: Option<Line<D::L>>,
-    /// Whether one was joined so far: where none is there, it was lost.
-    was_joined: bool,
+    /// Whether a connection was joined on which no server was asked for anything yet.
+    is_fresh: bool,
     /// The file that was closed last, whose places the client's index gets before the next command.
     stored: Option<u64>,
     /// Whether a command was asked for since the last farewell.
@@ -288,13 +290,13 @@ where
     #[tactic(auto, using(crate::proofs::Noting::notes_nothing))]
     pub fn new(alloc: Global, dialler: &'e D, clock: &'e C) -> Result<Session<'e, D, C>, AllocError>
         ensures start { IfOk result (λ s. s.client ≡ start_with DRIFT LBFS_SPOKEN) }
-        ensures fresh { IfOk result (λ s. s.was_joined ≡ false) }
+        ensures none { IfOk result (λ s. s.is_fresh ≡ false) }
         ensures notes { NotesNothing DRIFT }
     {
         Ok(Session {
             client: Client::new(alloc, DRIFT, LBFS_SPOKEN)?,
             line: None,
-            was_joined: false,
+            is_fresh: false,
             stored: None,
             is_used: false,
             dialler,
@@ -306,15 +308,15 @@ where
     pub fn join(&mut self, alloc: Global) -> bool
         ensures joined { result ≡ true → self.new.client ≡ joined self.old.client }
         ensures stays { result ≡ false → self.new.client ≡ self.old.client }
-        ensures noted { result ≡ true → self.new.was_joined ≡ true }
-        ensures kept { result ≡ false → self.new.was_joined ≡ self.old.was_joined }
+        ensures fresh { result ≡ true → self.new.is_fresh ≡ true }
+        ensures kept { result ≡ false → self.new.is_fresh ≡ self.old.is_fresh }
     {
         shut(&mut self.line);
         match dial(alloc, self.dialler) {
             Some(line) => {
                 self.line = Some(line);
                 self.client.joined(alloc);
-                self.was_joined = true;
+                self.is_fresh = true;
                 true
             }
             None => false,
@@ -324,7 +326,7 @@ where
     /// Runs a command on the connection that there is.
     fn once(&mut self, alloc: Global, command: Command) -> Answer
         ensures once { Once self.old.client command result self.new.client }
-        ensures kept { self.new.was_joined ≡ self.old.was_joined }
+        ensures kept { self.new.is_fresh ≡ self.old.is_fresh }
     {
         let answer = run(alloc, &mut self.client, &mut self.line, command, self.clock);
         if !self.client.linked() {
@@ -333,12 +335,11 @@ where
         answer
     }
 
-    /// Runs a command on a connection that was joined in the place of one that was lost. A relay takes connections
-    /// whether or not a server is behind it, so this one is tried first: a change that was asked for and lost
-    /// may be done, or not, and nobody could tell.
+    /// Runs a command on a connection that is tried first. A relay takes connections whether or not a server is
+    /// behind it, and a change that was asked for and lost may be done, or not, and nobody could tell.
     fn tried(&mut self, alloc: Global, command: Command) -> Answer
         ensures tries { Tries self.old.client command result self.new.client }
-        ensures kept { self.new.was_joined ≡ self.old.was_joined }
+        ensures kept { self.new.is_fresh ≡ self.old.is_fresh }
     {
         let looked = self.once(alloc, Command::Named(PathCommand::LookRoot));
         match stops(&looked) {
@@ -347,49 +348,64 @@ where
         }
     }
 
-    /// Runs a command on a connection that was joined just now.
-    fn on_joined(&mut self, alloc: Global, was_joined: bool, command: Command) -> Answer
-        ensures asks { AsksJoined was_joined self.old.client command result self.new.client }
-        ensures kept { self.new.was_joined ≡ self.old.was_joined }
+    /// Runs a command on a connection that is to be tried first, or isn't.
+    fn on(&mut self, alloc: Global, tries: bool, command: Command) -> Answer
+        ensures asks { AsksOn tries self.old.client command result self.new.client }
+        ensures kept { self.new.is_fresh ≡ self.old.is_fresh }
     {
-        if was_joined {
+        if tries {
             self.tried(alloc, command)
         } else {
             self.once(alloc, command)
         }
     }
 
-    /// Runs a command, on a new connection where there is none and a server is asked for it.
-    #[tactic(auto, using(crate::proofs::Again::at_first, crate::proofs::Again::at_joined))]
-    fn first(&mut self, alloc: Global, command: Command) -> Answer
-        ensures { Asks self.old.was_joined self.old.client command result self.new.client self.new.was_joined }
+    /// Runs a command for which a server is asked, on a new connection where there is none.
+    #[tactic(auto, using(crate::proofs::Again::at_asked, crate::proofs::Again::at_joined, crate::proofs::Again::at_unjoined))]
+    fn asked(&mut self, alloc: Global, command: Command) -> Answer
+        requires { is_local command ≡ false }
+        ensures { Asks self.old.is_fresh self.old.client command result self.new.client self.new.is_fresh }
     {
-        if is_local(&command) {
-            return self.once(alloc, command);
-        }
         if self.client.linked() {
-            return self.once(alloc, command);
+            let tries = wants_look(self.is_fresh, &command);
+            self.is_fresh = false;
+            return self.on(alloc, tries, command);
         }
-        let was_joined = self.was_joined;
         if self.join(alloc) {
-            self.on_joined(alloc, was_joined, command)
+            let tries = wants_look(true, &command);
+            self.is_fresh = false;
+            self.on(alloc, tries, command)
         } else {
+            self.is_fresh = false;
             self.once(alloc, command)
         }
     }
 
-    /// A command that may be asked again is, where its answer was that the connection is lost and a new one
-    /// is joined.
+    /// Runs a command: one on an open file as it is, and any other where a server is.
+    #[tactic(auto, using(crate::proofs::Again::at_local))]
+    fn first(&mut self, alloc: Global, command: Command) -> Answer
+        ensures { Asks self.old.is_fresh self.old.client command result self.new.client self.new.is_fresh }
+    {
+        if is_local(&command) {
+            self.once(alloc, command)
+        } else {
+            self.asked(alloc, command)
+        }
+    }
+
+    /// A command that may be asked again is, where its answer was that the connection is lost, a new one is
+    /// joined, and a server is behind that.
     #[tactic(auto, using(crate::proofs::Again::at_again, crate::proofs::Again::stayed))]
     fn repeat(&mut self, alloc: Global, command: Command, answer: Answer) -> Answer
-        ensures { (o : State) (was : Bool) → rereads command ≡ true → Asks was o command answer self.old.client self.old.was_joined
-            → Asks was o command result self.new.client self.new.was_joined }
+        ensures { (o : State) (was : Bool) → rereads command ≡ true → Asks was o command answer self.old.client self.old.is_fresh
+            → Asks was o command result self.new.client self.new.is_fresh }
     {
         if !is_lost(&answer) {
             return answer;
         }
         if self.join(alloc) {
             drop(answer);
+            self.is_fresh = false;
             self.tried(alloc, command)
         } else {
             answer
@@ -398,7 +414,7 @@ where
 
     /// Runs a command, and once more where it may be asked again.
     fn heard(&mut self, alloc: Global, command: Command) -> Answer
-        ensures { Asks self.old.was_joined self.old.client command result self.new.client self.new.was_joined }
+        ensures { Asks self.old.is_fresh self.old.client command result self.new.client self.new.is_fresh }
     {
         let again = again_of(alloc, &command);
         let answer = self.first(alloc, command);
@@ -413,15 +429,15 @@ impl<'e, D: Dials, C: Clock> Remote for Session<'e, D, C>
 where
     D::L: Drop,
 {
-    ghost asks = { λ s c a t. AsksHinted s.was_joined s.client c a t.client t.was_joined };
+    ghost asks = { λ s c a t. AsksHinted s.is_fresh s.client c a t.client t.is_fresh };
 
-    ghost offers = { λ s bytes t. MayOffer s.client bytes t.client × (t.was_joined ≡ s.was_joined) };
+    ghost offers = { λ s bytes t. MayOffer s.client bytes t.client × (t.is_fresh ≡ s.is_fresh) };
 
-    ghost warms = { λ s bytes done t. MayWarm s.client bytes done t.client × (t.was_joined ≡ s.was_joined) };
+    ghost warms = { λ s bytes done t. MayWarm s.client bytes done t.client × (t.is_fresh ≡ s.is_fresh) };
 
     ghost saves = { λ s bytes. bytes ≡ spelled (saved s.client.cache) };
 
-    ghost farewells = { λ s t. Leaves s.client t.client × (t.was_joined ≡ s.was_joined) };
+    ghost farewells = { λ s t. Leaves s.client t.client × (t.is_fresh ≡ s.is_fresh) };
 
     ghost content = { λ s file. local_bytes s.client.opened file };
 
