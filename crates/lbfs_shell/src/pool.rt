@@ -2,7 +2,7 @@
 //! says so. No clause speaks of what is behind the lock, since another thread's turn may stand before and
 //! behind each; of what one turn makes of it `Jobs::settle` does.
 
-ghost use Rattle.std.specs.Prelude.{◌≡◌, ◌++◌, ◌||◌, [], true, false, length, reverse};
+ghost use Rattle.std.specs.Prelude.{◌≡◌, ◌-◌, ◌++◌, ◌||◌, [], true, false, length, reverse};
 ghost use Rattle.shell_telling.specs.Tally.{capped_sum, with_visit};
 
 use last_words::keeping::Keeps;
@@ -76,9 +76,12 @@ impl Jobs {
     /// The tasks that came go to those that are to do, the first of them as the next one.
     fn add(&mut self, more: Items<Task>)
         ensures came { self.new.is_starved ≡ false → self.new.tasks.items ≡ self.old.tasks.items ++ reverse more }
+        ensures starved { self.old.is_starved ≡ true → self.new.is_starved ≡ true }
         ensures off { self.new.is_off ≡ self.old.is_off }
         ensures left { self.new.left_out ≡ self.old.left_out }
         ensures tally { self.new.tally ≡ self.old.tally }
+        ensures busy { self.new.busy ≡ self.old.busy }
+        ensures again { self.new.again ≡ self.old.again }
     {
         let mut more = more.into_vec();
         more.reverse();
@@ -94,6 +97,8 @@ impl Jobs {
         ensures off { self.new.is_off ≡ self.old.is_off }
         ensures starved { self.new.is_starved ≡ self.old.is_starved }
         ensures tally { self.new.tally ≡ self.old.tally }
+        ensures busy { self.new.busy ≡ self.old.busy }
+        ensures again { self.new.again ≡ self.old.again }
     {
         let count = self.tasks.len() as u64;
         self.left_out = self.left_out.saturating_add(count);
@@ -126,6 +131,10 @@ impl Jobs {
         ensures off { self.new.is_off ≡ (self.old.is_off || visited.is_off) }
         ensures none { self.new.is_off ≡ true → self.new.tasks.items ≡ [] }
         ensures all { self.new.is_starved ≡ false → capped_sum self.new.left_out (length self.new.tasks.items) ≡ capped_sum (capped_sum self.old.left_out (length self.old.tasks.items)) (length visited.more) }
+        ensures comes { self.new.is_off ≡ false → self.new.is_starved ≡ false → self.new.tasks.items ≡ self.old.tasks.items ++ reverse visited.more }
+        ensures starved { self.old.is_starved ≡ true → self.new.is_starved ≡ true }
+        ensures busy { self.new.busy ≡ self.old.busy - 1 }
+        ensures again { self.new.again ≡ self.old.again }
     {
         self.busy = self.busy.saturating_sub(1);
         self.tally = self.tally.with(&visited);
