@@ -1,5 +1,6 @@
 // Stands before the program (LD_PRELOAD): its monotonic clock and its wall clock are moved by so many milliseconds. The file
-// that LBFS_CLOCKS names has these as two numbers of eight bytes, which may change while the program runs.
+// that LBFS_CLOCKS names has these as two numbers of eight bytes, which may change while the program runs. And a write takes
+// at most as many bytes as LBFS_PART says.
 #define _GNU_SOURCE
 #include <fcntl.h>
 #include <stdint.h>
@@ -12,6 +13,7 @@
 enum { SECOND = 1000000000, MILLI = 1000000 };
 
 static volatile int64_t *moved;
+static size_t part = SIZE_MAX;
 
 __attribute__((constructor)) static void find(void) {
     const char *name = getenv("LBFS_CLOCKS");
@@ -20,6 +22,8 @@ __attribute__((constructor)) static void find(void) {
     moved = at == MAP_FAILED ? 0 : at;
     if (file >= 0)
         close(file);
+    if (getenv("LBFS_PART"))
+        part = strtoul(getenv("LBFS_PART"), 0, 10);
 }
 
 int clock_gettime(clockid_t clock, struct timespec *time) {
@@ -30,4 +34,12 @@ int clock_gettime(clockid_t clock, struct timespec *time) {
         time->tv_nsec = nanos % SECOND;
     }
     return (int)status;
+}
+
+ssize_t write(int file, const void *bytes, size_t count) {
+    return syscall(SYS_write, file, bytes, count < part ? count : part);
+}
+
+ssize_t __write(int file, const void *bytes, size_t count) {
+    return write(file, bytes, count);
 }

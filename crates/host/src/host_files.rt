@@ -5,7 +5,7 @@ ghost use Rattle.limits.specs.declared.TheConstants.{FILE_MOST};
 ghost use Rattle.links.specs.declared.files.FilesError.TheVariants as errors;
 
 use crate::notes::{FileNote, tell};
-use crate::replacing::{Target, Untaken, replace, target_of};
+use crate::replacing::{Untaken, Writer, replace, target_of};
 use lb_base::faults::one_more;
 use lb_base::items::{Bytes, Items};
 use lb_base::sink::GiveError;
@@ -14,10 +14,10 @@ use lb_base::streams::StreamSource;
 use limits::FILE_MOST;
 use links::files::{Files, FilesError};
 use std::alloc::Global;
+use std::fs;
 use std::fs::OpenFile;
 use std::io::{ErrorKind, Read};
 use std::rt::Files as HostDisk;
-use std::{fs, io};
 
 /// The files of the folder that the program runs in. They tell nothing of bytes.
 #[derive(Drop)]
@@ -101,19 +101,11 @@ fn tell_untaken<R: Eprint>(rt: &R, name: &str, why: Untaken) {
 }
 
 impl<R: HostDisk> HostFiles<R> {
-    /// Writes a file beside a target, under a name of this process, and puts it in its place.
-    fn replace_at(&self, alloc: Global, target: &Target, bytes: &[u8]) -> io::Result<()> {
-        let mark = self.mark;
-        let name = format!(in alloc; "~{mark}")?;
-        let beside = target.beside(alloc, name.as_str())?;
-        let file = fs::create(&self.rt, beside.as_str())?;
-        replace(&self.rt, file, beside.as_str(), target, bytes)
-    }
-
     /// Puts a file at a path.
     fn write(&self, alloc: Global, path: &str, bytes: &[u8]) -> Result<(), Untaken> {
         let target = target_of(&self.rt, alloc, path)?;
-        match self.replace_at(alloc, &target, bytes) {
+        let mount = Writer::Mount(self.mark);
+        match replace(&self.rt, alloc, &target, mount, &mut 0, bytes) {
             Ok(()) => Ok(()),
             Err(why) => Err(Untaken::Failed(why)),
         }

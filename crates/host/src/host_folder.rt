@@ -4,25 +4,21 @@ ghost use Rattle.std.specs.Prelude.{◌≤◌, length, IfOk};
 ghost use Rattle.limits.specs.declared.TheConstants.{FILE_MOST};
 
 use crate::left_over::clear_name;
-use crate::replacing::{Target, Untaken, replace, target_of};
+use crate::replacing::{Target, Untaken, Writer, make_beside, replace, target_of};
 use command_text::parts::first_part;
 use lb_base::items::{Bytes, Items, Name};
 use lb_base::source::{ReadError, read_all};
 use lb_base::streams::StreamSource;
 use limits::FILE_MOST;
 use shell_walks::folder::{Folder, Folders, Kind, LocalFault};
-use shell_words::local::LocalPath;
 use std::alloc::{AllocError, Global};
-use std::fs::{File, Metadata};
+use std::fs::Metadata;
 use std::io::ErrorKind;
 use std::rt::{Clock as HostTime, Files as HostDisk};
 use std::{fs, io};
 
 /// The most bytes that the names of a folder may have, each with a byte behind it.
 const LISTING_MOST: usize = 1_073_741_824;
-
-/// How many names are tried for a file that is being written.
-const TRIES: u32 = 1_024;
 
 /// The files and folders of the host.
 #[derive(Drop)]
@@ -37,30 +33,6 @@ impl<R> HostFolder<R> {
     /// that is being written is named after them, or after the next number that is free in its folder.
     pub fn new(rt: R, mark: u32, number: u32) -> HostFolder<R> {
         HostFolder { rt, mark, number }
-    }
-}
-
-impl<R: HostDisk> HostFolder<R> {
-    /// A new file beside a target, and its path. A name may be taken by what a process left that had the same
-    /// number, or by what one writes in another container: then it is the next one.
-    fn make_beside(
-        &mut self,
-        alloc: Global,
-        target: &Target,
-    ) -> Result<(String, R::File), LocalFault> {
-        for _try in 0..TRIES {
-            let Ok(path) = beside(alloc, target, self.mark, self.number) else {
-                return Err(LocalFault::Memory);
-            };
-            match File::create_new(&self.rt, path.as_str()) {
-                Ok(file) => return Ok((path, file)),
-                Err(error) if error.kind() == ErrorKind::AlreadyExists => {
-                    self.number = self.number.saturating_add(1);
-                }
-                Err(error) => return Err(unwritten(&error)),
-            }
-        }
-        Err(LocalFault::Exists)
     }
 }
 
@@ -121,12 +93,6 @@ fn target_at<R: HostDisk>(rt: &R, alloc: Global, path: &str) -> Result<Target, L
         Err(Untaken::Nowhere) => Err(LocalFault::Nowhere),
         Err(Untaken::Failed(error)) => Err(fault_of(&error)),
     }
-}
-
-/// The path of a file beside a target, which is named after two numbers.
-fn beside(alloc: Global, target: &Target, mark: u32, number: u32) -> Result<String, AllocError> {
-    let name = LocalPath::temporary(alloc, mark, number)?;
-    target.beside(alloc, name.as_str())
 }
 
 /// What a path stands for at which nothing was found: where links are followed, one may lead there.
@@ -257,16 +223,21 @@ impl<R: HostDisk + HostTime + Eprint> Folder for HostFolder<R> {
 
     fn try_write(&mut self, alloc: Global, path: &str) -> Result<(), LocalFault> {
         let target = target_at(&self.rt, alloc, path)?;
-        let (beside, file) = self.make_beside(alloc, &target)?;
-        drop(file);
-        let _gone = fs::remove_file(&self.rt, beside.as_str());
-        Ok(())
+        let shell = Writer::Shell(self.mark);
+        match make_beside(&self.rt, alloc, &target, shell, &mut self.number) {
+            Ok((beside, file)) => {
+                drop(file);
+                let _gone = fs::remove_file(&self.rt, beside.as_str());
+                Ok(())
+            }
+            Err(error) => Err(unwritten(&error)),
+        }
     }
 
     fn write(&mut self, alloc: Global, path: &str, bytes: &[u8]) -> Result<(), LocalFault> {
         let target = target_at(&self.rt, alloc, path)?;
-        let (beside, file) = self.make_beside(alloc, &target)?;
-        match replace(&self.rt, file, beside.as_str(), &target, bytes) {
+        let shell = Writer::Shell(self.mark);
+        match replace(&self.rt, alloc, &target, shell, &mut self.number, bytes) {
             Ok(()) => Ok(()),
             Err(error) => Err(unwritten(&error)),
         }

@@ -1,11 +1,22 @@
 //! How a file of the host is replaced, for a mount and a shell: it is written beside the one that has the name,
 //! with the permissions of that one, and then put in its place.
 
+use shell_words::local::LocalPath;
 use std::alloc::{AllocError, Global};
-use std::fs::{Metadata, OpenFile};
+use std::fs::{File, Metadata, OpenFile};
 use std::io::{ErrorKind, Write};
 use std::rt::Files as HostDisk;
 use std::{fs, io};
+
+/// How many names are tried for a file that is being written.
+const TRIES: u32 = 1_024;
+
+/// Whose file it is that is being written, by the process's number.
+#[derive(Clone, Copy)]
+pub(crate) enum Writer {
+    Mount(u32),
+    Shell(u32),
+}
 
 /// What is replaced, or made, and what keeps its permissions where it is there.
 #[derive(Drop)]
@@ -61,7 +72,7 @@ pub(crate) fn target_of<R: HostDisk>(rt: &R, alloc: Global, path: &str) -> Resul
 
 impl Target {
     /// The path of a name beside it, in its folder.
-    pub(crate) fn beside(&self, alloc: Global, name: &str) -> Result<String, AllocError> {
+    fn beside(&self, alloc: Global, name: &str) -> Result<String, AllocError> {
         let mut path = String::new(alloc);
         if let Some((folder, _name)) = self.path.as_str().rsplit_once('/') {
             path.push_str(folder)?;
@@ -70,6 +81,40 @@ impl Target {
         path.push_str(name)?;
         Ok(path)
     }
+}
+
+/// The name of a file that is being written, by a number besides.
+fn name_of(alloc: Global, writer: Writer, number: u32) -> io::Result<String> {
+    match writer {
+        Writer::Shell(mark) => {
+            let name = LocalPath::temporary(alloc, mark, number)?;
+            Ok(String::from_str(alloc, name.as_str())?)
+        }
+        Writer::Mount(mark) if number == 0 => Ok(format!(in alloc; "~{mark}")?),
+        Writer::Mount(mark) => Ok(format!(in alloc; "~{mark}-{number}")?),
+    }
+}
+
+/// A new file beside a target, and its path. A name may be taken, as by what a process left that had the same number,
+/// by what one writes in another container, or by anybody where the folder is anybody's: then it is the next one.
+pub(crate) fn make_beside<R: HostDisk>(
+    rt: &R,
+    alloc: Global,
+    target: &Target,
+    writer: Writer,
+    number: &mut u32,
+) -> io::Result<(String, R::File)> {
+    for _try in 0..TRIES {
+        let path = target.beside(alloc, name_of(alloc, writer, *number)?.as_str())?;
+        match File::create_new(rt, path.as_str()) {
+            Ok(file) => return Ok((path, file)),
+            Err(why) if why.kind() == ErrorKind::AlreadyExists => {
+                *number = number.saturating_add(1);
+            }
+            Err(why) => return Err(why),
+        }
+    }
+    Err(ErrorKind::AlreadyExists.into())
 }
 
 /// A file gets the permissions of the one that it is to replace.
@@ -88,23 +133,25 @@ fn fill<F: OpenFile + Write>(file: &mut F, target: &Target, bytes: &[u8]) -> io:
     keep_permissions(file, target)
 }
 
-/// Replaces a target by a file of these bytes, which is open at the path beside it. Where that fails, what was
-/// there stays, and the file beside it goes.
+/// Replaces a target by a new file of these bytes, which is written beside it. Where that fails, what was there
+/// stays, and the file beside it goes.
 pub(crate) fn replace<R: HostDisk>(
     rt: &R,
-    mut file: R::File,
-    beside: &str,
+    alloc: Global,
     target: &Target,
+    writer: Writer,
+    number: &mut u32,
     bytes: &[u8],
 ) -> io::Result<()> {
+    let (beside, mut file) = make_beside(rt, alloc, target, writer, number)?;
     let filled = fill(&mut file, target, bytes);
     drop(file);
     let replaced = match filled {
-        Ok(()) => fs::rename(rt, beside, target.path.as_str()),
+        Ok(()) => fs::rename(rt, beside.as_str(), target.path.as_str()),
         Err(why) => Err(why),
     };
     if replaced.is_err() {
-        let _gone = fs::remove_file(rt, beside);
+        let _gone = fs::remove_file(rt, beside.as_str());
     }
     replaced
 }
