@@ -44,7 +44,7 @@ def listens(port):
 
 def quiet_line(folder, term):
     """What a server says once it listens, of a store in which anything was ever changed."""
-    return f"lbfs: {folder}: for the first {term} ms puts, removals of files and renames over them wait (leases of the run before)"
+    return f"lbfs: {folder}: for the first {term} ms, puts, removals of files and renames over them wait (leases of the run before)"
 
 
 def heed_signals():

@@ -66,7 +66,7 @@ pub enum RunNote<'a> {
         port: u16,
         files: u64,
     },
-    #[error("{place}: for the first {term} ms puts, removals of files and renames over them wait \
+    #[error("{place}: for the first {term} ms, puts, removals of files and renames over them wait \
          (leases of the run before)")]
     Quiet {
         place: &'a str,
