@@ -253,7 +253,7 @@ where
     pool.into_tally()
 }
 
-/// That a command was ended which isn't done in tasks is to be said where the program is ended now.
+/// Keeps what is said where the program is ended in the midst of a command that isn't done in tasks.
 fn keep_unsure<P: Keeps>(screen: &P, manner: Manner, line: &Line) {
     if !manner.quiet {
         screen.keep(unsure_line(line.has_option));

@@ -12,7 +12,7 @@ pub struct Tally {
     pub files: u64,
     /// How many bytes these have.
     pub bytes: u64,
-    /// How many names were said that weren't stored, fetched or removed, or are passed over.
+    /// How many names were told that weren't stored, fetched or removed, or were passed over.
     pub undone: u64,
     /// Whether all was done.
     pub is_fine: bool,
