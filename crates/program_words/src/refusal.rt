@@ -22,8 +22,18 @@ struct Use {
     does: &'static str,
 }
 
-/// All commands.
+/// All commands, those for people first.
 static USES: [Use; 10] = [
+    Use {
+        name: "share",
+        words: "share DIR [--port P] [--term MS] [--unsynced]",
+        does: "serves a folder until it is ended, at port 7000 if none is given",
+    },
+    Use {
+        name: "shell",
+        words: "shell --port P [--links N] [--cache NAME] [--quiet] [COMMAND ..]",
+        does: "runs a command, or what is typed, on a served folder",
+    },
     Use {
         name: "replay",
         words: "replay [--summary]",
@@ -63,16 +73,6 @@ static USES: [Use; 10] = [
         name: "check",
         words: "check --store DIR",
         does: "looks over a folder that isn't served",
-    },
-    Use {
-        name: "share",
-        words: "share DIR [--port P] [--term MS] [--unsynced]",
-        does: "serves a folder until it is ended, at port 7000 if none is given",
-    },
-    Use {
-        name: "shell",
-        words: "shell --port P [--links N] [--cache NAME] [--quiet] [COMMAND ..]",
-        does: "runs a command, or what is typed, on a served folder",
     },
 ];
 
