@@ -48,7 +48,10 @@ use synced_store::syncs::Synced;
 fn given_words(rt: &HostRuntime) -> io::Result<Vec<String>> {
     match env::args(rt) {
         Ok(words) => Ok(words.collect(rt.alloc())?),
-        Err(error) if error.kind() == ErrorKind::InvalidData => Ok(Vec::new(rt.alloc())),
+        Err(error) if error.kind() == ErrorKind::InvalidData => {
+            let _told = eprintln!(rt; "lbfs: one of the words is no text (UTF-8)");
+            Ok(Vec::new(rt.alloc()))
+        }
         Err(error) => Err(error),
     }
 }
