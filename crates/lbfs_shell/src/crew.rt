@@ -253,9 +253,15 @@ where
     pool.into_tally()
 }
 
-/// Keeps what is said where the program is ended in the midst of a command that isn't done in tasks.
+/// Whether a command that isn't done in tasks changes something at the server.
+fn changes(verb: Verb) -> bool {
+    matches!(verb, Verb::Rm | Verb::Mv | Verb::Mkdir | Verb::Rmdir)
+}
+
+/// Keeps what is said where the program is ended in the midst of a command that changes something, and isn't done
+/// in tasks.
 fn keep_unsure<P: Keeps>(screen: &P, manner: Manner, line: &Line) {
-    if !manner.quiet {
+    if !manner.quiet && changes(line.verb) {
         screen.keep(unsure_line(line.has_option));
     }
 }
@@ -302,7 +308,7 @@ where
     )
 }
 
-/// Runs a line. What may wait for other clients' leases, or for those of the server's run before, says so, as tasks do.
+/// Runs a line. One that waits for the server says so, as tasks do.
 pub(crate) fn run_line<
     W: Threads + Wait + Sync,
     P: Screen + Keeps + Sync,
@@ -326,7 +332,7 @@ where
     D::L: Drop + Send,
     H::F: Drop + Send,
 {
-    if !matches!(line.verb, Verb::Rm | Verb::Mv) {
+    if !manner.shows && !changes(line.verb) {
         return shell.run(alloc, remote, folder, line);
     }
     let pool = Pool::without_tasks(alloc);

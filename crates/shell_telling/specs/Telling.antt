@@ -63,7 +63,7 @@ abbrev pub line_part : (wire spent : ℕ) → List ℕ
 line_part wire spent = size_text wire ++ codes " on the line, " ++ rate_text wire spent
 
 abbrev pub waits_text : List ℕ
-waits_text = codes "waiting for the server (another client's lease, or its own start?)"
+waits_text = codes "waiting for the server (a lease, or its start?)"
 
 -- where no byte has gone over the line for two seconds, what is asked for waits: a close does while another client's lease lasts, and first one that the run before may have granted
 abbrev pub pace_text : Glance → List ℕ

@@ -34,7 +34,7 @@ const STILL: u64 = 2_000;
 fn waits_words() -> &'static [u8]
     ensures { result.now ≡ waits_text }
 {
-    b"waiting for the server (another client's lease, or its own start?)"
+    b"waiting for the server (a lease, or its start?)"
 }
 
 /// So many of something.
