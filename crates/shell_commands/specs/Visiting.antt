@@ -6,8 +6,9 @@ use Rattle.shell_words.specs.Temporary.{is_carried, is_temporary}
 use Rattle.shell_words.specs.Quoting.{quoted}
 use Rattle.shell_walks.specs.Asking.{command_on, AsksOn}
 use Rattle.shell_walks.specs.Fetching.{Gets}
+use Rattle.shell_walks.specs.Removing.{RemovesAll}
 use Rattle.shell_walks.specs.Storing.{CountsRead, PutsBytes}
-use Rattle.shell_walks.specs.Telling.{fault_text, note_line, path_text, why_text}
+use Rattle.shell_walks.specs.Telling.{fault_text, is_off, note_line, path_text, why_text}
 use Rattle.shell_walks.specs.declared.asking.Deed.{Deed}
 use Rattle.shell_walks.specs.declared.asking.Deed.TheVariants as deed
 use Rattle.shell_walks.specs.declared.fetching.Got.{Got}
@@ -17,6 +18,7 @@ use Rattle.shell_walks.specs.declared.folder.LocalFault.{LocalFault}
 use Rattle.shell_walks.specs.declared.remote.Answer.{Answer}
 use Rattle.shell_walks.specs.declared.remote.Why.{Why}
 use Rattle.shell_walks.specs.declared.remote.Why.TheVariants as why
+use Rattle.shell_walks.specs.declared.removing.Removal.{Removal}
 use Rattle.shell_walks.specs.declared.tasks.Storing.{Storing}
 use Rattle.shell_walks.specs.declared.tasks.Task.{Task}
 use Rattle.shell_walks.specs.declared.tasks.Task.TheVariants as task
@@ -32,11 +34,6 @@ one_file n = record { more = []; note = []; news = []; files = 1; bytes = n; is_
 abbrev pub noted : (note : List ℕ) → (is_off : Bool) → Visited
 noted note off = record { more = []; note = note; news = []; files = 0; bytes = 0; is_off = off }
 
--- there is no connection, so nothing else need be begun
-abbrev pub is_off : Why → Bool
-is_off why.NoLink = true
-is_off w = false
-
 -- of a path of the server's
 abbrev pub said_of : (path : List (List ℕ)) → Why → (words : List ℕ) → Visited
 said_of path w words = noted (note_line (path_text path) words) (is_off w)
@@ -47,6 +44,10 @@ refused_as path w = said_of path w (why_text w)
 -- of a path of the host's
 abbrev pub faulty_as : (local : List ℕ) → LocalFault → Visited
 faulty_as local fault = noted (note_line (quoted local) (fault_text fault)) false
+
+-- of what went with a path, with the tasks that come behind it
+abbrev pub removed_as : List Task → Removal → Visited
+removed_as more r = record { more = more; note = r.note; news = r.news; files = 0; bytes = 0; is_off = r.is_off }
 
 -- NFS3ERR_ISDIR
 abbrev pub is_directory_for : Why → Bool
@@ -69,6 +70,17 @@ EndsGet path local (got.Fault fault) v = v ≡ faulty_as local fault
 -- nothing but the putting of these bytes
 abbrev pub PutsAlone : {R : Type 0} → (asks : R → Command → Answer → R → Type 0) → (content : R → ℕ → List ℕ) → (offers : R → List ℕ → R → Type 0) → R → List (List ℕ) → Storing → List ℕ → R → Type 0
 PutsAlone asks content offers old path s bytes new = (a : Answer) × PutsBytes asks content offers old path s bytes a new
+
+-- what has the path goes, and what came of it is told as it is
+pub record Removed {R : Type 0} (asks : R → Command → Answer → R → Type 0) (old : R) (path : List (List ℕ)) (v : Visited) (new : R) : Type 0 where
+  pub removal : Removal
+  pub goes : RemovesAll asks old path new removal
+  pub is_told : v ≡ removed_as v.more removal
+
+abbrev pub RemovedFor : {R : Type 0} → (asks : R → Command → Answer → R → Type 0) → R → Task → Visited → R → Type 0
+RemovedFor asks old (task.Put local path s) v new = Unit {0}
+RemovedFor asks old (task.Get path local deep id) v new = Unit {0}
+RemovedFor asks old (task.Remove path) v new = Removed asks old path v new
 
 -- ---- which files are counted
 

@@ -3,9 +3,9 @@
 ghost use Rattle.std.specs.Prelude.{◌≡◌, ℕ, ◌≤◌, List, [], Bool, true, false, Option, length, IfOk, OnOk};
 ghost use Rattle.limits.specs.declared.TheConstants.{FILE_MOST};
 ghost use Rattle.shell_walks.specs.Storing.{Counts, CountsRead, Offers, PutsBytes, is_compared, is_kept};
-ghost use Rattle.shell_walks.specs.Telling.{unstored_text, why_of};
-ghost use Rattle.shell_commands.specs.Visiting.{AllCome, CountsFor, CountsGot, CountsPut, EndsGet, PutsAlone, Spares, SparesFor, SparesPut, Touches, TouchesFor};
-ghost use Rattle.shell_commands.specs.Visiting.{faulty_as, is_off, noted, one_file, refused_as, said_of};
+ghost use Rattle.shell_walks.specs.Telling.{is_off, unstored_text, why_of};
+ghost use Rattle.shell_commands.specs.Visiting.{AllCome, CountsFor, CountsGot, CountsPut, EndsGet, PutsAlone, Removed, RemovedFor, Spares, SparesFor, SparesPut, Touches, TouchesFor};
+ghost use Rattle.shell_commands.specs.Visiting.{faulty_as, noted, one_file, refused_as, removed_as, said_of};
 ghost use Rattle.shell_walks.specs.declared.tasks.Storing.{Storing as StoringOf};
 ghost use Rattle.shell_walks.specs.declared.tasks.Task.TheVariants as tasks;
 
@@ -20,7 +20,7 @@ use shell_walks::removing::{Removal, remove_all};
 use shell_walks::storing::{is_closed, is_done, make, put};
 use shell_walks::tasks::{Storing, Task, get_tasks, put_known, put_removals, put_tasks};
 use shell_walks::telling::{
-    STORED, fault_words, note_line, path_line, put_unstored, put_why, why_of,
+    STORED, fault_words, is_off, note_line, path_line, put_unstored, put_why, why_of,
 };
 use shell_words::local::LocalPath;
 use shell_words::path::copy_of;
@@ -110,13 +110,6 @@ fn noted(alloc: Global, note: Bytes, is_off: bool) -> Visited
         bytes: 0,
         is_off,
     }
-}
-
-/// Whether there is no connection, so that nothing else need be begun.
-fn is_off(why: Why) -> bool
-    ensures { result ≡ is_off why }
-{
-    matches!(why, Why::NoLink)
 }
 
 /// This is said of a path of the server's with which that happened.
@@ -216,6 +209,23 @@ fn is_kept(storing: Storing, answer: &Answer) -> bool
     is_closed(answer) || (is_compared(storing) && is_done(answer))
 }
 
+/// What went with a path is told, and these tasks come behind it.
+fn removed(more: Items<Task>, removal: Removal) -> Visited
+    ensures exact { result ≡ removed_as more removal }
+    ensures more { result.more ≡ more }
+    ensures files { result.files ≡ 0 }
+{
+    let Removal { note, news, is_off } = removal;
+    Visited {
+        more,
+        note,
+        news,
+        files: 0,
+        bytes: 0,
+        is_off,
+    }
+}
+
 /// Where a directory stands and may go, it goes, and the task comes again.
 fn put_over<R: Remote>(
     alloc: Global,
@@ -225,6 +235,7 @@ fn put_over<R: Remote>(
     storing: Storing,
 ) -> Result<Visited, AllocError>
     ensures come { IfOk result (λ v. AllCome (tasks.Put local.now path.now storing) v.more) }
+    ensures removes { IfOk result (λ v. Removed R.asks remote.old path.now v remote.new) }
     ensures files { IfOk result (λ v. v.files ≡ 0) }
 {
     let removal = remove_all(alloc, remote, path)?;
@@ -241,8 +252,7 @@ fn put_over<R: Remote>(
             },
         })?;
     }
-    let Removal { note, news } = removal;
-    Ok(with_news(leads(alloc, more, note), news))
+    Ok(removed(more, removal))
 }
 
 /// A file of so many bytes was stored, or left as it is; of a sync is said what was stored.
@@ -746,11 +756,12 @@ fn visit_removal<R: Remote>(
     remote: &mut R,
     path: &[Name],
 ) -> Result<Visited, AllocError>
+    ensures removes { IfOk result (λ v. Removed R.asks remote.old path.now v remote.new) }
     ensures more { IfOk result (λ v. v.more ≡ []) }
     ensures files { IfOk result (λ v. v.files ≡ 0) }
 {
-    let Removal { note, news } = remove_all(alloc, remote, path)?;
-    Ok(with_news(leads(alloc, Items::new(alloc), note), news))
+    let removal = remove_all(alloc, remote, path)?;
+    Ok(removed(Items::new(alloc), removal))
 }
 
 /// Does a task. What isn't done is said. Of the host's files it touches the path of the task alone; and the tasks
@@ -765,6 +776,7 @@ pub fn visit<R: Remote, F: Folder>(
     ensures come { IfOk result (λ v. AllCome task v.more) }
     ensures touches { OnOk result (TouchesFor F.finds F.reads F.writes F.lists F.makes F.tries F.clears task folder.old folder.new) }
     ensures counts { IfOk result (λ v. CountsFor R.asks R.content R.offers F.reads F.writes F.tries remote.old task v remote.new) }
+    ensures removes { IfOk result (λ v. RemovedFor R.asks remote.old task v remote.new) }
     ensures spares { OnOk result (SparesFor R.asks R.content R.offers task remote.old remote.new) }
 {
     match &task {

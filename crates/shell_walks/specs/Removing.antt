@@ -1,8 +1,8 @@
--- What goes with a path, and in which order, over what a client does at any command (`asks`): what is in a directory first.
-use Rattle.std.specs.Prelude.{◌≡◌, ℕ, ◌&&◌, List, [], ◌∷◌, ◌++◌, Bool, true, false, not, codes}
+-- What goes with a path, and in which order, over what a client does at any command (`asks`): what is in a directory first. Where no server answers, nothing else is asked for.
+use Rattle.std.specs.Prelude.{◌≡◌, ℕ, ◌&&◌, ◌||◌, List, [], ◌∷◌, ◌++◌, Bool, true, false, not, codes}
 use Rattle.command_text.specs.declared.command.Command.{Command}
 use Rattle.shell_walks.specs.Asking.{command_on, AsksOn}
-use Rattle.shell_walks.specs.Telling.{is_dir, note_line, path_text, why_of, why_text}
+use Rattle.shell_walks.specs.Telling.{is_dir, is_off, note_line, path_text, why_of, why_text}
 use Rattle.shell_walks.specs.declared.asking.Deed.{Deed}
 use Rattle.shell_walks.specs.declared.asking.Deed.TheVariants as deed
 use Rattle.shell_walks.specs.declared.remote.Answer.{Answer}
@@ -15,10 +15,10 @@ use Rattle.shell_walks.specs.declared.removing.Removal.{Removal}
 -- ---- what is said
 
 abbrev pub nothing_said : Removal
-nothing_said = record { note = []; news = [] }
+nothing_said = record { note = []; news = []; is_off = false }
 
 abbrev pub both : Removal → Removal → Removal
-both r s = record { note = r.note ++ s.note; news = r.news ++ s.news }
+both r s = record { note = r.note ++ s.note; news = r.news ++ s.news; is_off = r.is_off || s.is_off }
 
 -- ---- what comes of one thing that was to go
 
@@ -39,10 +39,10 @@ came_with more said = record { more = more; said = said }
 
 -- it stays, and why is said
 abbrev pub stays : (path : List (List ℕ)) → Why → Came
-stays path w = came_with [] (record { note = note_line (path_text path) (why_text w); news = [] })
+stays path w = came_with [] (record { note = note_line (path_text path) (why_text w); news = []; is_off = is_off w })
 
 abbrev pub goes : (path : List (List ℕ)) → Came
-goes path = came_with [] (record { note = []; news = note_line (path_text path) (codes "removed") })
+goes path = came_with [] (record { note = []; news = note_line (path_text path) (codes "removed"); is_off = false })
 
 abbrev pub came_of : (path : List (List ℕ)) → Answer → Came
 came_of path answer.Done = goes path
@@ -85,7 +85,12 @@ pub record RemovesOne {R : Type 0} (asks : R → Command → Answer → R → Ty
 abbrev pub first : List (List ℕ) → List Doomed
 first path = record { path = path; emptied = false } ∷ []
 
--- How far it has come: what is left to go, the last first, and what was said. What came of each goes behind what is left.
+-- How far it has come: what is left to go, the last first, and what was said. What came of each goes behind what is left. Behind one for which no server answered nothing is asked for.
 pub data Removes {R : Type 0} (asks : R → Command → Answer → R → Type 0) (old : R) (path : List (List ℕ)) : List Doomed → R → Removal → Type 0 where
   begins : (todo : List Doomed) (s : R) (r : Removal) → todo ≡ first path → s ≡ old → r ≡ nothing_said → Removes asks old path todo s r
-  one_more : (todo after : List Doomed) (one : Doomed) (s t : R) (r q : Removal) (c : Came) → Removes asks old path (todo ++ one ∷ []) s r → RemovesOne asks s one c t → after ≡ todo ++ c.more → q ≡ both r c.said → Removes asks old path after t q
+  one_more : (todo after : List Doomed) (one : Doomed) (s t : R) (r q : Removal) (c : Came) → Removes asks old path (todo ++ one ∷ []) s r → r.is_off ≡ false → RemovesOne asks s one c t → after ≡ todo ++ c.more → q ≡ both r c.said → Removes asks old path after t q
+
+-- all has been asked for, or no server answers
+pub data RemovesAll {R : Type 0} (asks : R → Command → Answer → R → Type 0) (old : R) (path : List (List ℕ)) (new : R) (r : Removal) : Type 0 where
+  all : Removes asks old path [] new r → RemovesAll asks old path new r
+  cut_off : (left : List Doomed) → Removes asks old path left new r → r.is_off ≡ true → RemovesAll asks old path new r

@@ -136,6 +136,11 @@ abbrev pub unstored_text : Answer → List ℕ
 unstored_text (answer.Left w) = why_text w ++ codes "; a new file may stay there, empty"
 unstored_text a = why_text (why_of a)
 
+-- there is no connection, so nothing else need be begun
+abbrev pub is_off : Why → Bool
+is_off why.NoLink = true
+is_off w = false
+
 -- NFS3ERR_ISDIR
 abbrev pub is_dir_for : Why → Bool
 is_dir_for (why.Refused n) = n == 21

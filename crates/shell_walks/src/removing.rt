@@ -1,12 +1,12 @@
 //! How a directory goes with all that is in it: what is in it first. `specs/Removing.antt` says what is asked for.
 
 ghost use Rattle.std.specs.Prelude.{◌≡◌, ◌++◌, [], IfOk, OnOk};
-ghost use Rattle.shell_walks.specs.Removing.{both, came_listed, came_of, deed_of, goes, inner, Lists, nothing_said, opened, opens, Removes, RemovesIf, RemovesOne, stays};
+ghost use Rattle.shell_walks.specs.Removing.{both, came_listed, came_of, deed_of, goes, inner, Lists, nothing_said, opened, opens, RemovesAll, RemovesIf, RemovesOne, stays};
 
 use crate::asking::{Deed, ask_on};
 use crate::remote::{Answer, Remote, Why};
 use crate::tasks::longer;
-use crate::telling::{REMOVED, is_dir, path_line, put_why, why_of};
+use crate::telling::{REMOVED, is_dir, is_off, path_line, put_why, why_of};
 use command_text::path::Path;
 use lb_base::items::{Bytes, Items, Name};
 use shell_words::path::copy_of;
@@ -27,6 +27,8 @@ pub struct Removal {
     pub note: Bytes,
     /// What went.
     pub news: Bytes,
+    /// Whether there is no connection, nor can one be had: what is left wasn't asked for.
+    pub is_off: bool,
 }
 
 /// What came of one thing that was to go.
@@ -44,6 +46,7 @@ fn nothing_said(alloc: Global) -> Removal
     Removal {
         note: Items::new(alloc),
         news: Items::new(alloc),
+        is_off: false,
     }
 }
 
@@ -59,6 +62,7 @@ fn stays(alloc: Global, path: &[Name], why: Why) -> Result<Came, AllocError>
         said: Removal {
             note,
             news: Items::new(alloc),
+            is_off: is_off(why),
         },
     })
 }
@@ -73,6 +77,7 @@ fn goes(alloc: Global, path: &[Name]) -> Result<Came, AllocError>
         said: Removal {
             note: Items::new(alloc),
             news,
+            is_off: false,
         },
     })
 }
@@ -188,7 +193,9 @@ fn say(removal: &mut Removal, said: &Removal) -> Result<(), AllocError>
     ensures { OnOk result (removal.new ≡ both removal.old said.now) }
 {
     removal.note.extend_from_slice(said.note.as_slice())?;
-    removal.news.extend_from_slice(said.news.as_slice())
+    removal.news.extend_from_slice(said.news.as_slice())?;
+    removal.is_off = removal.is_off || said.is_off;
+    Ok(())
 }
 
 /// What came of one thing goes behind what is to go, and is said.
@@ -201,13 +208,14 @@ fn add(doomed: &mut Vec<Doomed>, removal: &mut Removal, came: Came) -> Result<()
     say(removal, &said)
 }
 
-/// What has a path goes, with all that is in it. What does and what doesn't is said, a line for each.
+/// What has a path goes, with all that is in it. What does and what doesn't is said, a line for each. Where no
+/// server answers, that is said once, and nothing else is asked for.
 pub fn remove_all<R: Remote>(
     alloc: Global,
     remote: &mut R,
     path: &[Name],
 ) -> Result<Removal, AllocError>
-    ensures { IfOk result (λ r. Removes R.asks remote.old path.now [] remote.new r) }
+    ensures { IfOk result (λ r. RemovesAll R.asks remote.old path.now remote.new r) }
 {
     let mut removal = nothing_said(alloc);
     let mut doomed = Vec::new(alloc);
@@ -216,6 +224,9 @@ pub fn remove_all<R: Remote>(
         emptied: false,
     })?;
     for _turn in 0..u64::MAX {
+        if removal.is_off {
+            return Ok(removal);
+        }
         match doomed.pop() {
             Some(one) => {
                 let came = remove_one(alloc, remote, &one)?;

@@ -5,7 +5,7 @@ ghost use Rattle.std.specs.Prelude.{◌≡◌, ◌+◌, ◌-◌, ◌++◌, ◌�
 ghost use Rattle.shell_walks.specs.declared.remote.Why.TheVariants as whys;
 ghost use Rattle.shell_words.specs.Quoting.{quoted};
 ghost use Rattle.shell_walks.specs.Telling.{status_words, status_text, why_text, fault_text, mistake_text, slashed, path_text, note_line, names_text, padded, kind_text, long_line, stat_text, why_of};
-ghost use Rattle.shell_walks.specs.Telling.{unstored_text, is_dir, refused_told, done_told, removed_told, names_told, stat_told};
+ghost use Rattle.shell_walks.specs.Telling.{unstored_text, is_off, is_dir, refused_told, done_told, removed_told, names_told, stat_told};
 
 use crate::folder::LocalFault;
 use crate::remote::{Answer, Seen, Why};
@@ -301,6 +301,13 @@ pub fn why_of(answer: &Answer) -> Why
         Answer::Failed(why) | Answer::Left(why) => *why,
         _ => Why::Order,
     }
+}
+
+/// Whether there is no connection, so that nothing else need be begun.
+pub fn is_off(why: Why) -> bool
+    ensures { result ≡ is_off why }
+{
+    matches!(why, Why::NoLink)
 }
 
 /// Why something wasn't stored for which a file was made, in words.
