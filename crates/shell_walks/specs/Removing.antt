@@ -1,5 +1,5 @@
 -- What goes with a path, and in which order, over what a client does at any command (`asks`): what is in a directory first. Where no server answers, nothing else is asked for.
-use Rattle.std.specs.Prelude.{◌≡◌, ℕ, ◌&&◌, ◌||◌, List, [], ◌∷◌, ◌++◌, Bool, true, false, not, codes}
+use Rattle.std.specs.Prelude.{◌≡◌, ℕ, ◌&&◌, ◌||◌, List, [], ◌∷◌, ◌++◌, Bool, true, false, length, not, codes}
 use Rattle.command_text.specs.declared.command.Command.{Command}
 use Rattle.shell_walks.specs.Asking.{command_on, AsksOn}
 use Rattle.shell_walks.specs.Telling.{is_dir, is_off, note_line, path_text, why_of, why_text}
@@ -10,6 +10,7 @@ use Rattle.shell_walks.specs.declared.remote.Answer.TheVariants as answer
 use Rattle.shell_walks.specs.declared.remote.Why.{Why}
 use Rattle.shell_walks.specs.declared.removing.Came.{Came}
 use Rattle.shell_walks.specs.declared.removing.Doomed.{Doomed}
+use Rattle.shell_walks.specs.declared.removing.Gone.{Gone}
 use Rattle.shell_walks.specs.declared.removing.Removal.{Removal}
 
 -- ---- what is said
@@ -90,7 +91,7 @@ pub data Removes {R : Type 0} (asks : R → Command → Answer → R → Type 0)
   begins : (todo : List Doomed) (s : R) (r : Removal) → todo ≡ first path → s ≡ old → r ≡ nothing_said → Removes asks old path todo s r
   one_more : (todo after : List Doomed) (one : Doomed) (s t : R) (r q : Removal) (c : Came) → Removes asks old path (todo ++ one ∷ []) s r → r.is_off ≡ false → RemovesOne asks s one c t → after ≡ todo ++ c.more → q ≡ both r c.said → Removes asks old path after t q
 
--- all has been asked for, or no server answers
-pub data RemovesAll {R : Type 0} (asks : R → Command → Answer → R → Type 0) (old : R) (path : List (List ℕ)) (new : R) (r : Removal) : Type 0 where
-  all : Removes asks old path [] new r → RemovesAll asks old path new r
-  cut_off : (left : List Doomed) → Removes asks old path left new r → r.is_off ≡ true → RemovesAll asks old path new r
+-- all has been asked for, or no server answers, and what is left is counted
+pub data RemovesAll {R : Type 0} (asks : R → Command → Answer → R → Type 0) (old : R) (path : List (List ℕ)) (new : R) (g : Gone) : Type 0 where
+  all : Removes asks old path [] new g.said → g.left ≡ 0 → RemovesAll asks old path new g
+  cut_off : (left : List Doomed) → Removes asks old path left new g.said → g.said.is_off ≡ true → g.left ≡ length left → RemovesAll asks old path new g

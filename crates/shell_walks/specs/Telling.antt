@@ -141,6 +141,10 @@ abbrev pub is_off : Why → Bool
 is_off why.NoLink = true
 is_off w = false
 
+-- of what wasn't begun then, where it is known that there is more
+abbrev pub left_text : ℕ → List ℕ
+left_text n = if n == 0 then [] else codes "not begun: at least " ++ decimal n ++ codes " more\n"
+
 -- NFS3ERR_ISDIR
 abbrev pub is_dir_for : Why → Bool
 is_dir_for (why.Refused n) = n == 21

@@ -1,6 +1,6 @@
 //! How a directory goes with all that is in it: what is in it first. `specs/Removing.antt` says what is asked for.
 
-ghost use Rattle.std.specs.Prelude.{◌≡◌, ◌++◌, [], IfOk, OnOk};
+ghost use Rattle.std.specs.Prelude.{◌≡◌, ◌++◌, [], length, IfOk, OnOk};
 ghost use Rattle.shell_walks.specs.Removing.{both, came_listed, came_of, deed_of, goes, inner, Lists, nothing_said, opened, opens, RemovesAll, RemovesIf, RemovesOne, stays};
 
 use crate::asking::{Deed, ask_on};
@@ -27,8 +27,16 @@ pub struct Removal {
     pub note: Bytes,
     /// What went.
     pub news: Bytes,
-    /// Whether there is no connection, nor can one be had: what is left wasn't asked for.
+    /// Whether there is no connection, nor can one be had.
     pub is_off: bool,
+}
+
+/// What came of all that was to go.
+#[derive(Drop)]
+pub struct Gone {
+    pub said: Removal,
+    /// How much of it wasn't asked for, of what was known: no server answers.
+    pub left: u64,
 }
 
 /// What came of one thing that was to go.
@@ -208,14 +216,21 @@ fn add(doomed: &mut Vec<Doomed>, removal: &mut Removal, came: Came) -> Result<()
     say(removal, &said)
 }
 
+/// How much is to go still.
+fn count_of(doomed: &Vec<Doomed>) -> u64
+    ensures { result ≡ length doomed.now.items }
+{
+    doomed.len() as u64
+}
+
 /// What has a path goes, with all that is in it. What does and what doesn't is said, a line for each. Where no
-/// server answers, that is said once, and nothing else is asked for.
+/// server answers, that is said once, nothing else is asked for, and what is left is counted.
 pub fn remove_all<R: Remote>(
     alloc: Global,
     remote: &mut R,
     path: &[Name],
-) -> Result<Removal, AllocError>
-    ensures { IfOk result (λ r. RemovesAll R.asks remote.old path.now remote.new r) }
+) -> Result<Gone, AllocError>
+    ensures { IfOk result (λ g. RemovesAll R.asks remote.old path.now remote.new g) }
 {
     let mut removal = nothing_said(alloc);
     let mut doomed = Vec::new(alloc);
@@ -225,14 +240,22 @@ pub fn remove_all<R: Remote>(
     })?;
     for _turn in 0..u64::MAX {
         if removal.is_off {
-            return Ok(removal);
+            return Ok(Gone {
+                said: removal,
+                left: count_of(&doomed),
+            });
         }
         match doomed.pop() {
             Some(one) => {
                 let came = remove_one(alloc, remote, &one)?;
                 add(&mut doomed, &mut removal, came)?;
             }
-            None => return Ok(removal),
+            None => {
+                return Ok(Gone {
+                    said: removal,
+                    left: 0,
+                });
+            }
         }
     }
     // More than can be counted.

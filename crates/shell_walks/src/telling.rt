@@ -5,7 +5,7 @@ ghost use Rattle.std.specs.Prelude.{◌≡◌, ◌+◌, ◌-◌, ◌++◌, ◌�
 ghost use Rattle.shell_walks.specs.declared.remote.Why.TheVariants as whys;
 ghost use Rattle.shell_words.specs.Quoting.{quoted};
 ghost use Rattle.shell_walks.specs.Telling.{status_words, status_text, why_text, fault_text, mistake_text, slashed, path_text, note_line, names_text, padded, kind_text, long_line, stat_text, why_of};
-ghost use Rattle.shell_walks.specs.Telling.{unstored_text, is_off, is_dir, refused_told, done_told, removed_told, names_told, stat_told};
+ghost use Rattle.shell_walks.specs.Telling.{unstored_text, is_off, left_text, is_dir, refused_told, done_told, removed_told, names_told, stat_told};
 
 use crate::folder::LocalFault;
 use crate::remote::{Answer, Seen, Why};
@@ -308,6 +308,25 @@ pub fn is_off(why: Why) -> bool
     ensures { result ≡ is_off why }
 {
     matches!(why, Why::NoLink)
+}
+
+/// That so many weren't begun.
+fn left_line(alloc: Global, count: u64) -> Result<Bytes, AllocError>
+    ensures { IfOk result (λ text. text ≡ codes "not begun: at least " ++ decimal count ++ codes " more\n") }
+{
+    let mut text = String::new(alloc);
+    write!(text, "not begun: at least {count} more\n")?;
+    Ok(Items::from_vec(text.into_bytes()))
+}
+
+/// How many weren't begun, where some weren't.
+pub fn left_text(alloc: Global, count: u64) -> Result<Bytes, AllocError>
+    ensures { IfOk result (λ text. text ≡ left_text count) }
+{
+    if count == 0 {
+        return Ok(Items::new(alloc));
+    }
+    left_line(alloc, count)
 }
 
 /// Why something wasn't stored for which a file was made, in words.

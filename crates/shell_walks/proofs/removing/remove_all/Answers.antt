@@ -10,4 +10,4 @@ pub loop-turn-preserved : goal.loop-turn-preserved
 loop-turn-preserved g c = went_on _ _ _ _ _ _ _ _ _ _ _ _ c.loop-turn.invariant c.if-removal.false c.in-Some.ensures.items c.in_ok-came-in-Some.ensures c.in_ok-add-in-Some.ensures.0 c.in_ok-add-in-Some.ensures.1
 
 pub returns-then-removal : goal.returns-then-removal
-returns-then-removal g c = off _ _ _ _ _ _ c.loop-turn.invariant c.if-removal.true
+returns-then-removal g c = off _ _ _ _ _ _ c.loop-turn.invariant c.if-removal.true c.count_of.ensures
