@@ -7,7 +7,7 @@ use Rattle.shell_words.specs.declared.command.Verb.TheVariants as verb
 use Rattle.shell_walks.specs.Asking.{command_on, rename_of, AsksOn}
 use Rattle.shell_walks.specs.Fetching.{Cats}
 use Rattle.shell_walks.specs.Removing.{RemovesAll as GoesWith}
-use Rattle.shell_walks.specs.Telling.{done_told, fine, long_line, names_told, note_line, notes, path_text, refused_told, removed_told, stat_told, why_of, why_text}
+use Rattle.shell_walks.specs.Telling.{done_told, fine, left_text, long_line, names_told, note_line, notes, path_text, refused_told, removed_told, stat_told, why_of, why_text}
 use Rattle.shell_walks.specs.declared.asking.Deed.{Deed}
 use Rattle.shell_walks.specs.declared.asking.Deed.TheVariants as deed
 use Rattle.shell_walks.specs.declared.remote.Answer.{Answer}
@@ -15,7 +15,7 @@ use Rattle.shell_walks.specs.declared.remote.Answer.TheVariants as answer
 use Rattle.shell_walks.specs.declared.remote.Seen.{Seen}
 use Rattle.shell_walks.specs.declared.remote.Why.{Why}
 use Rattle.shell_walks.specs.declared.remote.Why.TheVariants as why
-use Rattle.shell_walks.specs.declared.removing.Removal.{Removal}
+use Rattle.shell_walks.specs.declared.removing.Gone.{Gone}
 use Rattle.shell_walks.specs.declared.told.Told.{Told}
 
 -- ---- one command of the client
@@ -119,7 +119,7 @@ pub data MakesAll {R : Type 0} (asks : R → Command → Answer → R → Type 0
 -- ---- rm
 
 abbrev pub RemovesAll : {R : Type 0} → (asks : R → Command → Answer → R → Type 0) → R → List (List ℕ) → Told → R → Type 0
-RemovesAll asks old path told new = (r : Removal) × GoesWith asks old path new r × (told ≡ notes r.note)
+RemovesAll asks old path told new = (g : Gone) × GoesWith asks old path new g × (told ≡ notes (g.said.note ++ left_text g.left))
 
 -- ---- mv
 

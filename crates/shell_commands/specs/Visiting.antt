@@ -18,6 +18,7 @@ use Rattle.shell_walks.specs.declared.folder.LocalFault.{LocalFault}
 use Rattle.shell_walks.specs.declared.remote.Answer.{Answer}
 use Rattle.shell_walks.specs.declared.remote.Why.{Why}
 use Rattle.shell_walks.specs.declared.remote.Why.TheVariants as why
+use Rattle.shell_walks.specs.declared.removing.Gone.{Gone}
 use Rattle.shell_walks.specs.declared.removing.Removal.{Removal}
 use Rattle.shell_walks.specs.declared.tasks.Storing.{Storing}
 use Rattle.shell_walks.specs.declared.tasks.Task.{Task}
@@ -73,9 +74,9 @@ PutsAlone asks content offers old path s bytes new = (a : Answer) × PutsBytes a
 
 -- what has the path goes, and what came of it is told as it is
 pub record Removed {R : Type 0} (asks : R → Command → Answer → R → Type 0) (old : R) (path : List (List ℕ)) (v : Visited) (new : R) : Type 0 where
-  pub removal : Removal
-  pub goes : RemovesAll asks old path new removal
-  pub is_told : v ≡ removed_as v.more removal
+  pub gone : Gone
+  pub goes : RemovesAll asks old path new gone
+  pub is_told : v ≡ removed_as v.more gone.said
 
 abbrev pub RemovedFor : {R : Type 0} → (asks : R → Command → Answer → R → Type 0) → R → Task → Visited → R → Type 0
 RemovedFor asks old (task.Put local path s) v new = Unit {0}

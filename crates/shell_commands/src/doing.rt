@@ -11,11 +11,11 @@ use lb_base::items::{Bytes, Items, Name};
 use shell_walks::asking::{Deed, ask_on, ask_rename};
 use shell_walks::fetching::cat;
 use shell_walks::remote::{Answer, Remote, Seen, Why};
-use shell_walks::removing::remove_all;
+use shell_walks::removing::{Gone, remove_all};
 use shell_walks::tasks::longer;
 use shell_walks::telling::{
-    done_told, long_line, names_told, path_line, path_text, put_why, refused_told, removed_told,
-    stat_told, why_of,
+    done_told, left_text, long_line, names_told, path_line, path_text, put_why, refused_told,
+    removed_told, stat_told, why_of,
 };
 use shell_walks::told::{Told, fine, notes};
 use shell_words::command::Verb;
@@ -269,12 +269,22 @@ fn remove_file<R: Remote>(alloc: Global, remote: &mut R, path: &[Name]) -> Resul
     removed_told(alloc, path, &answer)
 }
 
+/// What didn't go is said, and how much wasn't begun.
+fn deep_told(alloc: Global, gone: Gone) -> Result<Told, AllocError>
+    ensures { IfOk result (λ told. told ≡ notes (gone.said.note ++ left_text gone.left)) }
+{
+    let text = left_text(alloc, gone.left)?;
+    let mut note = gone.said.note;
+    note.extend_from_slice(text.as_slice())?;
+    Ok(notes(alloc, note))
+}
+
 /// `rm -r`.
 fn remove_deep<R: Remote>(alloc: Global, remote: &mut R, path: &[Name]) -> Result<Told, AllocError>
     ensures { IfOk result (λ told. RemovesAll R.asks remote.old path.now told remote.new) }
 {
-    let removal = remove_all(alloc, remote, path)?;
-    Ok(notes(alloc, removal.note))
+    let gone = remove_all(alloc, remote, path)?;
+    deep_told(alloc, gone)
 }
 
 /// The last name of a path that begins so.

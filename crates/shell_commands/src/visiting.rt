@@ -238,7 +238,7 @@ fn put_over<R: Remote>(
     ensures removes { IfOk result (λ v. Removed R.asks remote.old path.now v remote.new) }
     ensures files { IfOk result (λ v. v.files ≡ 0) }
 {
-    let removal = remove_all(alloc, remote, path)?;
+    let removal = remove_all(alloc, remote, path)?.said;
     let mut more = Items::new(alloc);
     if removal.note.is_empty() {
         more.push(Task::Put {
@@ -760,7 +760,7 @@ fn visit_removal<R: Remote>(
     ensures more { IfOk result (λ v. v.more ≡ []) }
     ensures files { IfOk result (λ v. v.files ≡ 0) }
 {
-    let removal = remove_all(alloc, remote, path)?;
+    let removal = remove_all(alloc, remote, path)?.said;
     Ok(removed(Items::new(alloc), removal))
 }
 
