@@ -30,9 +30,9 @@ def word(record, at):
     return struct.unpack(">I", record[4 + 4 * at : 8 + 4 * at])[0]
 
 
-def procedure(call):
-    """The procedure of LBFS that a call is of, or nothing."""
-    return word(call, 5) if (word(call, 3), word(call, 4)) == LBFS else None
+def procedure(call, of=LBFS):
+    """The procedure of LBFS, or of this program, that a call is of, or nothing."""
+    return word(call, 5) if (word(call, 3), word(call, 4)) == of else None
 
 
 def hung_up(stream):

@@ -4,7 +4,7 @@ import threading
 import time
 
 from holding import hung_up, procedure, records, word
-from peer import LOOKUP, NFS, READDIR, ROOT, Peer, Reader, opaque, record, u32, u64
+from peer import LBFS, LOOKUP, NFS, READDIR, ROOT, Peer, Reader, opaque, record, u32, u64
 from runs import Folder, Server
 
 
@@ -59,15 +59,15 @@ class Relay:
 
 class Forsaken(Relay):
     """A relay whose server is killed before the call with this number is passed on, counted from 1 among those of this
-    procedure of LBFS, or among all. It takes connections still, and closes each at once, as `ssh -L` does."""
+    procedure of LBFS, or of this program, or among all. It takes connections still, and closes each at once, as `ssh -L` does."""
 
-    def __init__(self, server, number, of=None):
+    def __init__(self, server, number, of=None, program=LBFS):
         super().__init__(server.port)
-        self.server, self.left, self.of = server, number, of
+        self.server, self.left, self.of, self.program = server, number, of, program
         self.lock = threading.Lock()
 
     def up(self, call, state):
-        if self.of in (None, procedure(call)):
+        if self.of in (None, procedure(call, self.program)):
             with self.lock:
                 self.left -= 1
                 if self.left == 0:
