@@ -2,6 +2,7 @@
 
 ghost use Rattle.std.specs.Prelude.{◌≡◌, ◌∷◌, ◌++◌, [], IfOk, OnOk};
 ghost use Rattle.shell_walks.specs.Asking.{command_on, AsksOn};
+ghost use Rattle.shell_walks.specs.Telling.{left_text, notes};
 ghost use Rattle.shell_walks.specs.declared.asking.Deed.TheVariants as deeds;
 ghost use Rattle.shell_commands.specs.Doing.{Does, Stats, RemovesFile, LooksWhether, is_dir_told, file_text, file_told, LooksAt, is_file, ListsFile, with_long, Longs, ListsOn, Lists, is_there};
 ghost use Rattle.shell_commands.specs.Doing.{made_told, MakesAll, RemovesAll, last_of, named_in, place_of, is_refused, at_fault, LooksBack, TellsRename, Renames, Moves, OnPath};
@@ -273,8 +274,9 @@ fn remove_file<R: Remote>(alloc: Global, remote: &mut R, path: &[Name]) -> Resul
 fn deep_told(alloc: Global, gone: Gone) -> Result<Told, AllocError>
     ensures { IfOk result (λ told. told ≡ notes (gone.said.note ++ left_text gone.left)) }
 {
-    let text = left_text(alloc, gone.left)?;
-    let mut note = gone.said.note;
+    let Gone { said, left } = gone;
+    let text = left_text(alloc, left)?;
+    let mut note = said.note;
     note.extend_from_slice(text.as_slice())?;
     Ok(notes(alloc, note))
 }

@@ -1,11 +1,13 @@
-//! Where a folder of the host goes: its directory is made, where there is none (`specs/Placing.antt`).
+//! Where a folder of the host goes: its directory is made, where there is none (`specs/Placing.antt`); and the folder
+//! of a directory that is fetched.
 
 ghost use Rattle.std.specs.Prelude.{◌≡◌, ◌&&◌, IfOk, OnOk};
 ghost use Rattle.shell_commands.specs.Placing.{there_as, LooksThere, is_taken, made_as, PlacesIf, MakesPlace, Places, is_in_the_way, instead_as, MakesInstead, OverIf, PlacesOver};
-ghost use Rattle.shell_commands.specs.Visiting.{Spares};
+ghost use Rattle.shell_commands.specs.Visiting.{Spares, Touches};
 
 use lb_base::items::{Bytes, Items, Name};
 use shell_walks::asking::{Deed, ask_on};
+use shell_walks::folder::{Folder, Kind, LocalFault};
 use shell_walks::remote::{Answer, Remote, Why};
 use shell_walks::tasks::Storing;
 use shell_walks::telling::{MADE, REMOVED, path_line, why_of};
@@ -205,4 +207,18 @@ pub fn place_news(
         news.extend_from_slice(line.as_slice())?;
     }
     Ok(news)
+}
+
+/// A folder is there for a directory, or why there is none.
+pub(crate) fn make_local<F: Folder>(folder: &mut F, local: &str) -> Result<(), LocalFault>
+    ensures { Touches F.finds F.reads F.writes F.lists F.makes F.tries F.clears local.now folder.old folder.new }
+{
+    match folder.make_folder(local) {
+        Err(LocalFault::Exists) => match folder.kind(local, true) {
+            Kind::Folder => Ok(()),
+            Kind::Hidden(fault) => Err(fault),
+            _ => Err(LocalFault::NotFolder),
+        },
+        made => made,
+    }
 }

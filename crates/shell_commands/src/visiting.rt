@@ -9,7 +9,7 @@ ghost use Rattle.shell_commands.specs.Visiting.{faulty_as, noted, one_file, refu
 ghost use Rattle.shell_walks.specs.declared.tasks.Storing.{Storing as StoringOf};
 ghost use Rattle.shell_walks.specs.declared.tasks.Task.TheVariants as tasks;
 
-use crate::placing::{Place, list_if, make_place_over, place_news};
+use crate::placing::{Place, list_if, make_local, make_place_over, place_news};
 use crate::unfit::bad_names;
 use lb_base::items::{Bytes, Items, Name};
 use shell_walks::asking::{Deed, ask_on, is_status, seen_of};
@@ -238,7 +238,8 @@ fn put_over<R: Remote>(
     ensures removes { IfOk result (λ v. Removed R.asks remote.old path.now v remote.new) }
     ensures files { IfOk result (λ v. v.files ≡ 0) }
 {
-    let removal = remove_all(alloc, remote, path)?.said;
+    let gone = remove_all(alloc, remote, path)?;
+    let removal = gone.said;
     let mut more = Items::new(alloc);
     if removal.note.is_empty() {
         more.push(Task::Put {
@@ -525,20 +526,6 @@ fn visit_put<R: Remote, F: Folder>(
     }
 }
 
-/// A folder is there for a directory, or why there is none.
-fn make_local<F: Folder>(folder: &mut F, local: &str) -> Result<(), LocalFault>
-    ensures { Touches F.finds F.reads F.writes F.lists F.makes F.tries F.clears local.now folder.old folder.new }
-{
-    match folder.make_folder(local) {
-        Err(LocalFault::Exists) => match folder.kind(local, true) {
-            Kind::Folder => Ok(()),
-            Kind::Hidden(fault) => Err(fault),
-            _ => Err(LocalFault::NotFolder),
-        },
-        made => made,
-    }
-}
-
 /// What is in a directory, whose folder is there, is to be fetched.
 fn get_names(
     alloc: Global,
@@ -760,8 +747,8 @@ fn visit_removal<R: Remote>(
     ensures more { IfOk result (λ v. v.more ≡ []) }
     ensures files { IfOk result (λ v. v.files ≡ 0) }
 {
-    let removal = remove_all(alloc, remote, path)?.said;
-    Ok(removed(Items::new(alloc), removal))
+    let gone = remove_all(alloc, remote, path)?;
+    Ok(removed(Items::new(alloc), gone.said))
 }
 
 /// Does a task. What isn't done is said. Of the host's files it touches the path of the task alone; and the tasks

@@ -1,5 +1,5 @@
 use Rattle.shell_commands.proofs.Touching.{both, only_found, only_made}
-use Rattle.shell_commands.proofs.visiting.make_local.Goals as goal
+use Rattle.shell_commands.proofs.placing.make_local.Goals as goal
 
 pub returns-in-Folder : goal.returns-in-Folder
 returns-in-Folder g c = both _ _ _ _ (only_made _ _ _ _ c.make_folder.ensures) (only_found _ _ _ _ c.kind.ensures)
