@@ -3,13 +3,17 @@
 
 use shell_words::local::LocalPath;
 use std::alloc::{AllocError, Global};
-use std::fs::{File, Metadata, OpenFile};
+use std::fs::{File, Metadata, OpenFile, Permissions};
 use std::io::{ErrorKind, Write};
+use std::os::unix::fs::PermissionsExt;
 use std::rt::Files as HostDisk;
 use std::{fs, io};
 
 /// How many names are tried for a file that is being written.
 const TRIES: u32 = 1_024;
+
+/// The bits of a mode that a file keeps which is replaced: who may read, write and run it.
+const KEPT: u32 = 0o777;
 
 /// Whose file it is that is being written, by the process's number.
 #[derive(Clone, Copy)]
@@ -117,16 +121,19 @@ pub(crate) fn make_beside<R: HostDisk>(
     Err(ErrorKind::AlreadyExists.into())
 }
 
-/// A file gets the permissions of the one that it is to replace.
+/// A file gets the permissions of the one that it is to replace. That it runs as its owner or group does, it doesn't
+/// keep: the owner is now who runs this program, and a server chose the bytes.
 fn keep_permissions<F: OpenFile>(file: &F, target: &Target) -> io::Result<()> {
     match &target.kept {
-        Some(kept) => file.set_permissions(kept.permissions()),
+        Some(kept) => {
+            file.set_permissions(Permissions::from_mode(kept.permissions().mode() & KEPT))
+        }
         None => Ok(()),
     }
 }
 
 /// Writes a file that is to replace a target, with its permissions. It has them before its bytes, so that nobody
-/// reads these who may not; the system may take some away as it is written.
+/// reads these who may not, and again behind them, should the system take some away as it is written.
 fn fill<F: OpenFile + Write>(file: &mut F, target: &Target, bytes: &[u8]) -> io::Result<()> {
     keep_permissions(file, target)?;
     file.write_all(bytes)?;
