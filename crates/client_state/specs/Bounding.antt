@@ -14,15 +14,15 @@ abbrev pub in_use : State → (file : ℕ) → Bool
 in_use s file = is_open s.opened file || is_tasks s.task file
 
 -- a content goes where too much is kept, unless it is in use
-abbrev pub let_go_of : (most : ℕ) → State → Option (ℕ × List ℕ) → State
-let_go_of most s None = s
-let_go_of most s (Some c) = if nat_le (kept_bytes s.cache) most || in_use s c.0 then s else evicted s c.0
+abbrev pub evicted_if_over : (most : ℕ) → State → Option (ℕ × List ℕ) → State
+evicted_if_over most s None = s
+evicted_if_over most s (Some c) = if nat_le (kept_bytes s.cache) most || in_use s c.0 then s else evicted s c.0
 
 -- so many of the most recent are looked at, the oldest of these first
-unfoldable pub let_go : (most : ℕ) → ℕ → State → State
-let_go most zero s = s
-let_go most (suc n) s = let_go most n (let_go_of most s (slice_get (contents_in s.cache) n))
+unfoldable pub evicted_oldest : (most : ℕ) → ℕ → State → State
+evicted_oldest most zero s = s
+evicted_oldest most (suc n) s = evicted_oldest most n (evicted_if_over most s (slice_get (contents_in s.cache) n))
 
 -- and there are no more than these
 abbrev pub kept_within : (most : ℕ) → State → State
-kept_within most s = let_go most files_most s
+kept_within most s = evicted_oldest most files_most s

@@ -2,7 +2,7 @@
 
 ghost use Rattle.std.specs.Prelude.{◌≡◌, slice_get};
 ghost use Rattle.client_cache.specs.Cache.{contents_in};
-ghost use Rattle.client_state.specs.Bounding.{is_tasks, in_use, let_go_of, kept_within};
+ghost use Rattle.client_state.specs.Bounding.{is_tasks, in_use, evicted_if_over, kept_within};
 ghost use Rattle.client_state.specs.View.{state_of, IsSound};
 
 use crate::parts;
@@ -31,9 +31,9 @@ impl ClientState {
     }
 
     /// The content at a place goes where more is kept than may be, unless it is in use.
-    fn let_go_of(&mut self, most: u64, place: usize)
+    fn evict_if_over(&mut self, most: u64, place: usize)
         requires { IsSound self.old }
-        ensures rest { state_of self.new ≡ let_go_of most (state_of self.old) (slice_get (contents_in self.old.cache) place) }
+        ensures rest { state_of self.new ≡ evicted_if_over most (state_of self.old) (slice_get (contents_in self.old.cache) place) }
         ensures sound { IsSound self.new }
     {
         let Some((file, _content)) = self.cache.at(place) else {
@@ -54,7 +54,7 @@ impl ClientState {
         let mut left = CONTENTS_MOST;
         'contents: while left > 0 {
             left -= 1;
-            self.let_go_of(most, left);
+            self.evict_if_over(most, left);
         }
     }
 }

@@ -99,7 +99,7 @@ fn read_next(
 }
 
 /// A fetch is dropped, with the READs that were sent for it.
-pub fn let_go(reads: Reads) {
+pub fn drop_reads(reads: Reads) {
     let Reads {
         fetch,
         next_xid: _,
@@ -135,7 +135,7 @@ pub fn read_all(
         match read_next(alloc, state, file, &mut reads) {
             Ok(()) => {}
             Err(error) => {
-                let_go(reads);
+                drop_reads(reads);
                 return Err(error);
             }
         }

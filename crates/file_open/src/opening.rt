@@ -303,7 +303,7 @@ fn read_on(
     let mut reads = calls::read_all(alloc, &*state, file, fetch)?;
     if calls::is_here(&reads.fetch) {
         let done = opened_with(alloc, state, file, &mut reads.fetch, from, xid, bytes);
-        calls::let_go(reads);
+        calls::drop_reads(reads);
         done
     } else {
         let count = (reads.fetch.under.len() - under) as u64;

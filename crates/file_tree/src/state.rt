@@ -74,7 +74,7 @@ impl TreeState {
         ensures room { self.old.nodes.room ≤ self.new.nodes.room }
     {
         let gone = self.nodes.remove(dir, name);
-        self.bytes -= let_go(gone);
+        self.bytes -= drop_node(gone);
     }
 
     /// Counts a change of the names of a directory.
@@ -177,7 +177,7 @@ impl TreeState {
 }
 
 /// How many bytes a node contained that goes.
-fn let_go(node: Node) -> u64
+fn drop_node(node: Node) -> u64
     ensures { result ≡ length (content_of node.body) }
 {
     size_of(&node)

@@ -47,11 +47,11 @@ pub struct ServerStep {
 
 /// Drops a message. Callers above call this, so that each proves one call, and not how every kind of
 /// message goes.
-pub fn let_go(message: Message) {
+pub fn drop_message(message: Message) {
     drop(message);
 }
 
 /// Drops a step whose messages nobody wants.
-pub fn let_go_step(step: ServerStep) {
+pub fn drop_step(step: ServerStep) {
     drop(step);
 }

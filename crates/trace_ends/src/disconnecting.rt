@@ -12,7 +12,7 @@ use crate::core_step::{CoreStep, Loss};
 use crate::ops::note_with;
 use crate::session::{short_number, taken_of};
 use crate::world_core::{Core, count_on};
-use server_core::event::{Event, let_go_step};
+use server_core::event::{Event, drop_step};
 use server_core::server::Server;
 use session_rules::numbers::place_of;
 use session_rules::running::running_at;
@@ -76,7 +76,7 @@ fn hang(alloc: Global, server: &mut Server, session: u32) -> Result<(), AllocErr
 {
     let step = server.step_unkept(alloc, Event::Hang { session });
     let missed = step.missed;
-    let_go_step(step);
+    drop_step(step);
     if missed {
         return Err(AllocError);
     }

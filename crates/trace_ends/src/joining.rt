@@ -9,7 +9,7 @@ ghost use Rattle.trace_ends.specs.View.{core_of, core_step_of};
 
 use crate::core_step::{CoreStep, Loss};
 use crate::world_core::{Core, count_on};
-use server_core::event::{Event, let_go_step};
+use server_core::event::{Event, drop_step};
 use server_core::server::Server;
 use server_rules::told::Told;
 use session_rules::numbers::place_of;
@@ -25,7 +25,7 @@ fn connect(alloc: Global, server: &mut Server) -> Result<Told, AllocError>
     let step = server.step_unkept(alloc, Event::Connect);
     let told = step.told;
     let missed = step.missed;
-    let_go_step(step);
+    drop_step(step);
     if missed {
         return Err(AllocError);
     }

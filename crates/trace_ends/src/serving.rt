@@ -12,7 +12,7 @@ use crate::entering::{changed_by, enter};
 use crate::raw_changes::put_raw;
 use crate::session::{remember, short_number};
 use crate::world_core::{Core, count_on};
-use server_core::event::{Event, let_go, let_go_step};
+use server_core::event::{Event, drop_message, drop_step};
 use session_rules::numbers::place_of;
 use session_rules::pointing::point_at;
 use std::alloc::{AllocError, Global};
@@ -99,7 +99,7 @@ fn got(
     let session = match short_number(place as u64 + 1) {
         Ok(session) => session,
         Err(error) => {
-            let_go(message);
+            drop_message(message);
             return Err(error);
         }
     };
@@ -107,7 +107,7 @@ fn got(
     match note(core, place, waits, &message) {
         Ok(()) => (),
         Err(error) => {
-            let_go(message);
+            drop_message(message);
             return Err(error);
         }
     }
@@ -118,13 +118,13 @@ fn got(
     };
     let step = core.server.step_unkept(alloc, event);
     if step.missed {
-        let_go_step(step);
+        drop_step(step);
         return Err(AllocError);
     }
     match enter_at(alloc, core, place, step.entries) {
         Ok(()) => Ok(CoreStep::served(alloc, step)),
         Err(error) => {
-            let_go_step(step);
+            drop_step(step);
             Err(error)
         }
     }

@@ -10,7 +10,7 @@ use crate::core_step::CoreStep;
 use crate::entering::{changed_by, enter};
 use crate::raw_changes::put_raw;
 use crate::world_core::{Core, count_on};
-use server_core::event::{Event, let_go_step};
+use server_core::event::{Event, drop_step};
 use server_rules::told::Told;
 use session_rules::numbers::place_of;
 use session_rules::pointing::settle_session;
@@ -57,7 +57,7 @@ impl Core {
         self.steps = at;
         let step = self.server.step_unkept(alloc, Event::Settle { now });
         if step.missed {
-            let_go_step(step);
+            drop_step(step);
             return Err(AllocError);
         }
         if let Told::Settled { session, .. } = step.told {
@@ -66,7 +66,7 @@ impl Core {
             match settle_raw(alloc, self, session, step.entries) {
                 Ok(()) => (),
                 Err(error) => {
-                    let_go_step(step);
+                    drop_step(step);
                     return Err(error);
                 }
             }
@@ -74,7 +74,7 @@ impl Core {
         match enter(&mut self.entries, step.entries, at) {
             Ok(()) => Ok(CoreStep::served(alloc, step)),
             Err(error) => {
-                let_go_step(step);
+                drop_step(step);
                 Err(error)
             }
         }

@@ -7,7 +7,7 @@ use Rattle.std.proofs.lemmas.Option.{slice_get_within}
 use Rattle.client_cache.specs.Cache.{Entries, contents_in, evicts, files_most, kept_bytes, kept_of, with_shown}
 use Rattle.client_cache.specs.declared.kept.Content.{Content}
 use Rattle.client_cache.specs.declared.kept.Kept.{Kept}
-use Rattle.client_state.specs.Bounding.{in_use, kept_within, let_go, let_go_of}
+use Rattle.client_state.specs.Bounding.{in_use, kept_within, evicted_oldest, evicted_if_over}
 use Rattle.client_state.specs.State.{State, evicted}
 use Rattle.lbfs_client.specs.Bounded.{IsBounded, IsCache, IsOnce}
 
@@ -119,16 +119,16 @@ seen_if most n s c true used less e is once h = (inl (leb-true (kept_bytes s.cac
 seen_if most n s c false true much e is once h = (this_seen most n s (λ d at. subst (λ (x : ℕ × List ℕ). in_use s x.0 ≡ true) (some_is c d (sym is ∙ at)) e) h, once)
 seen_if most n s c false false much e is once h = (gone_seen most n s c is much once h, once_evicted s.cache c.0 (kept_of s.cache c.0) once)
 
-seen_of : (most n : ℕ) (s : State) (o : Option (ℕ × List ℕ)) → slice_get (contents_in s.cache) n ≡ o → IsOnce s.cache → Seen most (suc n) s → Seen most n (let_go_of most s o) × IsOnce (let_go_of most s o).cache
+seen_of : (most n : ℕ) (s : State) (o : Option (ℕ × List ℕ)) → slice_get (contents_in s.cache) n ≡ o → IsOnce s.cache → Seen most (suc n) s → Seen most n (evicted_if_over most s o) × IsOnce (evicted_if_over most s o).cache
 seen_of most n s None is once h = (this_seen most n s (λ c at. absurd (none_some c (sym is ∙ at))) h, once)
 seen_of most n s (Some c) is once h = seen_if most n s c (nat_le (kept_bytes s.cache) most) (in_use s c.0) refl refl is once h
 
-all_seen : (most n : ℕ) (s : State) → IsOnce s.cache → Seen most n s → Seen most 0 (let_go most n s)
-unfolding let_go
+all_seen : (most n : ℕ) (s : State) → IsOnce s.cache → Seen most n s → Seen most 0 (evicted_oldest most n s)
+unfolding evicted_oldest
 all_seen most zero s once h = h
 all_seen most (suc n) s once h =
     let p = seen_of most n s (slice_get (contents_in s.cache) n) refl once h in
-    all_seen most n (let_go_of most s (slice_get (contents_in s.cache) n)) p.1 p.0
+    all_seen most n (evicted_if_over most s (slice_get (contents_in s.cache) n)) p.1 p.0
 
 -- none is past the last
 contents_fewer : (es : Entries) → length (contents_in es) ≤ length es

@@ -6,8 +6,8 @@ use Rattle.client_state.proofs.state.ClientState.keep_within.Goals as goal
 
 pub contents-preserved : goal.contents-preserved
 contents-preserved c = record {
-  leads = goes_down c.args.most c.contents.left (state_of c.contents.self) (state_of c.let_go_of.new.self) (kept_within c.args.most (state_of c.args.self.now)) c.contents-test.true c.let_go_of.ensures.rest c.contents.invariant.leads;
-  sound = c.let_go_of.ensures.sound;
+  leads = goes_down c.args.most c.contents.left (state_of c.contents.self) (state_of c.evict_if_over.new.self) (kept_within c.args.most (state_of c.args.self.now)) c.contents-test.true c.evict_if_over.ensures.rest c.contents.invariant.leads;
+  sound = c.evict_if_over.ensures.sound;
 }
 
 pub returns-clause-rest : goal.returns-clause-rest

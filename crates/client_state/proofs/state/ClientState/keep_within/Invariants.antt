@@ -1,11 +1,11 @@
 use Rattle.std.proofs.Common.{◌≡◌}
-use Rattle.client_state.specs.Bounding.{let_go, kept_within}
+use Rattle.client_state.specs.Bounding.{evicted_oldest, kept_within}
 use Rattle.client_state.specs.View.{state_of, IsSound}
 use Rattle.client_state.proofs.state.ClientState.keep_within.Given as goal
 
 abbrev pub invariant-contents : goal.invariant-contents
 invariant-contents l = record {
-  leads : let_go l.most l.left (state_of l.self) ≡ kept_within l.most (state_of l.initial.self);
+  leads : evicted_oldest l.most l.left (state_of l.self) ≡ kept_within l.most (state_of l.initial.self);
   sound : IsSound l.self;
 }
 

@@ -13,7 +13,7 @@ overflow_sub-self c =
     let old = c.args.self.now in
     let n = c.remove-gone.result in
     let at : with_id old.nodes.nodes n.id ≡ Some n = named_id old.nodes.nodes c.args.dir c.args.name.now n c.requires.state.limits.apart c.remove-gone.ensures.node in
-    less_than c.let_go.result (length (content_of n.body)) (contents_size c.remove-gone.new.self.nodes) (contents_size old.nodes.nodes) old.bytes c.let_go.ensures c.requires.state.counted (cleared_sum old.nodes c.remove-gone.new.self old.changes n c.requires.state.limits at c.remove-gone.ensures.done)
+    less_than c.drop_node.result (length (content_of n.body)) (contents_size c.remove-gone.new.self.nodes) (contents_size old.nodes.nodes) old.bytes c.drop_node.ensures c.requires.state.counted (cleared_sum old.nodes c.remove-gone.new.self old.changes n c.requires.state.limits at c.remove-gone.ensures.done)
 
 pub returns-clause-state : goal.returns-clause-state
 returns-clause-state c =
@@ -23,7 +23,7 @@ returns-clause-state c =
     let sum = cleared_sum old.nodes c.remove-gone.new.self old.changes n c.requires.state.limits at c.remove-gone.ensures.done in
     record {
       limits = cleared_limits old.nodes c.remove-gone.new.self old.changes n c.requires.state.limits c.remove-gone.ensures.done;
-      counted = what_rests c.let_go.result (length (content_of n.body)) (contents_size c.remove-gone.new.self.nodes) (contents_size old.nodes.nodes) old.bytes c.let_go.ensures c.requires.state.counted sum;
+      counted = what_rests c.drop_node.result (length (content_of n.body)) (contents_size c.remove-gone.new.self.nodes) (contents_size old.nodes.nodes) old.bytes c.drop_node.ensures c.requires.state.counted sum;
     }
   where
     what_rests : (size gone rest all bytes : ℕ) → size ≡ gone → bytes ≡ all → rest + gone ≡ all → bytes - size ≡ rest
