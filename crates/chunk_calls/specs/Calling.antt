@@ -57,6 +57,6 @@ abbrev pub chunks_entered : Tree → Lb → Option (ℕ × List Chunk)
 chunks_entered tree (lb.GetHash r) = chunks_told (node_of tree r.handle) r
 chunks_entered tree m = None
 
--- what is done but for places for which memory was wanting: at least one is left out of the index
+-- what is done but for places for which memory ran out: at least one is left out of the index
 abbrev pub LeavesPlaces : Tree → Temps → Indexed → (session term : ℕ) → Lb → Called → Type 0
 LeavesPlaces tree temps index session term m new = IsLacking index (chunks_entered tree m) new.index × (new ≡ record (calls tree temps index session term m) { index = new.index })

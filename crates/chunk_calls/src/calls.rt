@@ -19,7 +19,7 @@ use temp_files::temps::Temps;
 pub struct Outcome {
     /// What it is answered; none where it is none of these calls.
     pub answer: Option<Lb>,
-    /// Whether places of chunks for which memory was wanting were left out of the index.
+    /// Whether places of chunks for which memory ran out were left out of the index.
     pub left_out: bool,
 }
 

@@ -23,7 +23,7 @@ pub fn empty(alloc: Global) -> Result<Index, AllocError>
     }
 }
 
-/// Puts the place of a chunk under the key of its digest, and says whether memory was wanting: the
+/// Puts the place of a chunk under the key of its digest, and says whether memory ran out: the
 /// index then stays as it was.
 fn is_left_out(index: &mut Index, file: u64, chunk: &Chunk) -> bool
     ensures put { result ≡ false → index.new ≡ with_chunk index.old file chunk.now }

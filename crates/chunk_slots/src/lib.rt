@@ -75,7 +75,7 @@ fn empty_slots(alloc: Global, count: usize) -> Result<Vec<Option<Bytes>>, AllocE
 }
 
 /// Whether the bytes of the chunk at this place are in front now, behind the others. They aren't where another
-/// comes next there, or memory is wanting, and then all is as before.
+/// comes next there, or memory runs out, and then all is as before.
 fn add_behind(front: &mut Vec<u8>, lens: &mut Vec<usize>, place: usize, bytes: &[u8]) -> bool
     ensures next { result ≡ true → place ≡ length lens.old.items }
     ensures front { result ≡ true → front.new.items ≡ front.old.items ++ bytes.now }
@@ -215,7 +215,7 @@ fn own(back: Ahead, lent: usize) -> Option<Ahead> {
     if back.len() == lent { Some(back) } else { None }
 }
 
-/// What was hashed, with what came behind it. None where memory is wanting, or more was hashed than came.
+/// What was hashed, with what came behind it. None where memory runs out, or more was hashed than came.
 fn grown(ahead: Ahead, front: &[u8]) -> Option<Ahead>
     ensures { IfSome result (λ ahead. length ahead ≡ length front.now) }
 {
@@ -296,7 +296,7 @@ impl Slots {
         if !is_much(came, hashed_len(&self.ahead), size) {
             return None;
         }
-        // Where memory is wanting it counts as lent too, so that nobody is woken for it by each record.
+        // Where memory runs out it counts as lent too, so that nobody is woken for it by each record.
         self.lent = Some(came);
         let ahead = match self.ahead.take() {
             Some(ahead) => ahead,

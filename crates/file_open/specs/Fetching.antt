@@ -173,7 +173,7 @@ abbrev pub IsLacking : (old : Indexed) → Option Entering → (new : Indexed) �
 IsLacking old None new = ⊥
 IsLacking old (Some e) new = LeavesSome (found_all old e.looked) e.file e.chunks new
 
--- What was to come, but for such places, which the step says. None is wanting where none enters, so only what ends a fetch well may say so.
+-- What was to come, but for such places, which the step says. None is missing where none enters, so only what ends a fetch well may say so.
 pub record Lacks (old : Indexed) (enters : Option Entering) (comes : State × ClientStep) (new : State) (step : ClientStep) : Type 0 where
   pub lacks : IsLacking old enters new.index
   pub rest : new ≡ with_index comes.0 new.index

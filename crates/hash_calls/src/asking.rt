@@ -62,7 +62,7 @@ impl LeaseOn {
         Ok(LeaseOn { lbfs, handle })
     }
 
-    /// Writes its spelling; only memory can be wanting. After an `Err` the writer may hold a part of
+    /// Writes its spelling; only memory can run out. After an `Err` the writer may hold a part of
     /// it.
     #[tactic(auto, unfolding(crate::specs::Calls::lease_on_form))]
     pub fn write_in(&self, writer: &mut Writer) -> Result<(), AllocError>
@@ -88,7 +88,7 @@ impl HashRange {
         })
     }
 
-    /// Writes its spelling; only memory can be wanting. After an `Err` the writer may hold a part of
+    /// Writes its spelling; only memory can run out. After an `Err` the writer may hold a part of
     /// it.
     #[tactic(auto, unfolding(crate::specs::Calls::range_form))]
     pub fn write_in(&self, writer: &mut Writer) -> Result<(), AllocError>
@@ -109,7 +109,7 @@ impl NewTemp {
         Ok(NewTemp { lbfs, fd, handle })
     }
 
-    /// Writes its spelling; only memory can be wanting. After an `Err` the writer may hold a part of
+    /// Writes its spelling; only memory can run out. After an `Err` the writer may hold a part of
     /// it.
     #[tactic(auto, unfolding(crate::specs::Calls::new_temp_form))]
     pub fn write_in(&self, writer: &mut Writer) -> Result<(), AllocError>
@@ -137,7 +137,7 @@ impl TempPiece {
         })
     }
 
-    /// Writes its spelling; only memory can be wanting. After an `Err` the writer may hold a part of
+    /// Writes its spelling; only memory can run out. After an `Err` the writer may hold a part of
     /// it.
     #[tactic(auto, unfolding(crate::specs::Calls::temp_piece_form))]
     pub fn write_in(&self, writer: &mut Writer) -> Result<(), AllocError>
@@ -168,7 +168,7 @@ impl CondPiece {
         })
     }
 
-    /// Writes its spelling; only memory can be wanting. After an `Err` the writer may hold a part of
+    /// Writes its spelling; only memory can run out. After an `Err` the writer may hold a part of
     /// it.
     #[tactic(auto, unfolding(crate::specs::Calls::cond_piece_form, xdr_codec::specs::Xdr::fixed_form))]
     pub fn write_in(&self, writer: &mut Writer) -> Result<(), AllocError>
@@ -199,7 +199,7 @@ impl Commit {
         })
     }
 
-    /// Writes its spelling; only memory can be wanting. After an `Err` the writer may hold a part of
+    /// Writes its spelling; only memory can run out. After an `Err` the writer may hold a part of
     /// it.
     #[tactic(auto, unfolding(crate::specs::Calls::commit_form))]
     pub fn write_in(&self, writer: &mut Writer) -> Result<(), AllocError>
@@ -222,7 +222,7 @@ impl LookOn {
         Ok(LookOn { lbfs, dir, name })
     }
 
-    /// Writes its spelling; only memory can be wanting. After an `Err` the writer may hold a part of
+    /// Writes its spelling; only memory can run out. After an `Err` the writer may hold a part of
     /// it.
     #[tactic(auto, unfolding(crate::specs::Calls::look_on_form))]
     pub fn write_in(&self, writer: &mut Writer) -> Result<(), AllocError>

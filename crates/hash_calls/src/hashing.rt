@@ -103,7 +103,7 @@ impl Hashes {
         })
     }
 
-    /// Writes its spelling; only memory can be wanting. After an `Err` the writer may hold a part of
+    /// Writes its spelling; only memory can run out. After an `Err` the writer may hold a part of
     /// it.
     #[tactic(auto, unfolding(crate::specs::Calls::hashes_form))]
     pub fn write_in(&self, writer: &mut Writer) -> Result<(), AllocError>
@@ -130,7 +130,7 @@ pub fn read_hashes(
     }
 }
 
-/// Writes the answer to a GETHASH; only memory can be wanting. After an `Err` the writer may hold a
+/// Writes the answer to a GETHASH; only memory can run out. After an `Err` the writer may hold a
 /// part of it.
 pub fn write_hashes(writer: &mut Writer, answer: &Answer<Hashes, ()>) -> Result<(), AllocError>
     ensures spelled { OnOk result (writer.new ≡ writer.old ++ (answer_form (hashes_form 1) (nothing tt)).spell answer.now) }

@@ -32,7 +32,7 @@ pub record Looks (old : Host) (name : List ℕ) (read : Result (List ℕ) FilesE
 
 -- ---- it is read
 
--- its items are the client's; or memory was wanting, which is said, and nothing is
+-- its items are the client's; or memory ran out, which is said, and nothing is
 abbrev pub WarmedBy : State → List ℕ → Option Answer → State → Type 0
 WarmedBy c bytes None c' = (left_out : Bool) × Warms c (items bytes) left_out c'
 WarmedBy c bytes (Some a) c' = (a ≡ answer_of outcome.Memory) × (c' ≡ c)
@@ -61,7 +61,7 @@ pub record Writes (old : Host) (name bytes : List ℕ) (told : Option Answer) (n
   pub writes : HasWritten old name bytes wrote new
   pub told_is : told ≡ unwritten_answer wrote
 
--- with what the client keeps; or memory was wanting, and it stays
+-- with what the client keeps; or memory ran out, and it stays
 abbrev pub SavesTo : Host → State → List ℕ → Option Answer → Host → Type 0
 SavesTo old c name told new = Writes old name (spelled (saved c.cache)) told new ⊎ ((told ≡ Some (answer_of outcome.Memory)) × (new ≡ old))
 

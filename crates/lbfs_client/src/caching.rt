@@ -13,7 +13,7 @@ use open_close::client::Client;
 use register_model::op::Outcome;
 use std::alloc::Global;
 
-/// The items of a cache file with these bytes are the client's; what is said where memory was wanting.
+/// The items of a cache file with these bytes are the client's; what is said where memory ran out.
 fn warm(alloc: Global, client: &mut Client, bytes: &[u8]) -> Option<Answer>
     ensures { WarmedBy client.old bytes.now result client.new }
 {

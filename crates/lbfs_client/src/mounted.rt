@@ -198,7 +198,7 @@ impl<F: Files> Mounted<F> {
     }
 
     /// The places of the chunks of what the client keeps of a file enter its index: a hint, which nobody
-    /// trusts. Says whether that was done; where memory was wanting nothing was.
+    /// trusts. Says whether that was done; where memory ran out nothing was.
     pub fn learn(&mut self, alloc: Global, file: u64) -> bool
         ensures done { result ≡ true → LearnsIn self.old file self.new }
         ensures same { result ≡ false → self.new ≡ self.old }
@@ -229,7 +229,7 @@ impl<F: Files> Mounted<F> {
 
     /// A file of the host, if it is there, is read, and offered to the client's index, so that a chunk of a
     /// fetch that has bytes of it doesn't travel: a hint, which nobody trusts. Says whether that was done:
-    /// not where it can't be read, or memory was wanting. While an operation is under way nothing is
+    /// not where it can't be read, or memory ran out. While an operation is under way nothing is
     /// offered.
     #[tactic(auto, using(crate::proofs::Hintings::offered_if))]
     pub fn offer(&mut self, alloc: Global, local: &LocalName) -> bool
@@ -243,7 +243,7 @@ impl<F: Files> Mounted<F> {
     }
 
     /// The cache file of this name is read, and its items are the client's: hints, which nobody trusts. What
-    /// is answered is to be said: that it couldn't be read, is too large, or memory was wanting; the client
+    /// is answered is to be said: that it couldn't be read, is too large, or memory ran out; the client
     /// goes on without then. With it comes whether what stands there may be replaced.
     #[tactic(auto, using(crate::proofs::Cachings::loaded))]
     pub fn load(&mut self, alloc: Global, name: &str) -> (Option<Answer>, bool)
@@ -255,7 +255,7 @@ impl<F: Files> Mounted<F> {
     }
 
     /// What the client keeps is written to the cache file of this name, which is as it was or new. What is
-    /// answered is to be said: that it couldn't be written, or memory was wanting.
+    /// answered is to be said: that it couldn't be written, or memory ran out.
     #[tactic(auto, using(crate::proofs::Cachings::saved))]
     pub fn save(&mut self, alloc: Global, name: &str) -> Option<Answer>
         ensures { Saves self.old name.now result self.new }

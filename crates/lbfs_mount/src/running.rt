@@ -58,7 +58,7 @@ pub(crate) fn write_answer<K: Sink>(sink: &mut K, answer: &AnswerLine) -> Result
 
 /// A line goes on that waits with these bytes. They are cut and hashed first, between two turns, so that a
 /// thread that takes one meanwhile, as by a RECALL that is to be answered, doesn't wait for that. Where memory
-/// was wanting the client does it itself.
+/// ran out the client does it itself.
 fn go_on<'e, R: Threads + Wait, D: Turns + Drop, C: Clock>(
     rt: &'e R,
     turns: &ScriptTurns<'e, D>,

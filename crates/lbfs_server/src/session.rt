@@ -408,7 +408,7 @@ fn both_on<W: Threads + Wait, H: Turns + Drop, Y: Syncs, G: Gate + Drop, L: Link
 
 /// A session in one thread: each record is taken, and what there is to say is put out, also what
 /// comes of a pending change, before the next one is. It answers as `session_in` does, and has shut
-/// the link where the session was closed before its input ended, but where memory was wanting
+/// the link where the session was closed before its input ended, but where memory ran out
 /// before the first record.
 pub fn session_both<
     W: Threads + Wait,

@@ -84,7 +84,7 @@ pub trait Files {
         ensures sound { (len : ℕ) → result ≡ Err (errors.TooBig len) → faults self.new ≡ faults self.old };
 
     /// Whoever looks on is told that the file of this name, which was to be replaced, stays as it is, since it
-    /// isn't read as what was to be in its place.
+    /// isn't taken for what was to be in its place.
     fn leave(&self, name: &str);
 
     /// Makes a file of this name, or puts these bytes in the place of the one that there is. `Failed`

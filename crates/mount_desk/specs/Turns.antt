@@ -47,7 +47,7 @@ GoesOut most m now m' = (m' ≡ m) ⊎ ((end : End) × Loses most m end now m')
 abbrev pub Sends : (most : ℕ) → Mount → Said → (now : ℕ) → Mount → Type 0
 Sends most m said now m' = GoesOut most (bounded_by said most m) now m'
 
--- where memory was wanting for the call nothing is
+-- where memory ran out for the call nothing is
 abbrev pub SendsOf : {E : Type 0} → (most : ℕ) → Mount → Result Said E → (now : ℕ) → Mount → Type 0
 SendsOf most m (Ok said) now m' = Sends most m said now m'
 SendsOf most m (Err e) now m' = ⊥

@@ -195,7 +195,7 @@ abbrev pub MayMiss : State → Result Message WireFault → Type 0
 MayMiss s (Ok (message.Answer xid b)) = (has_call (pending s.task) xid ≡ true) × (IsCommitting s.task → ⊥)
 MayMiss s m = ⊥
 
--- Where memory ran out the operation ended by that, or a fetch ended well and nothing is wanting but places in the index.
+-- Where memory ran out the operation ended by that, or a fetch ended well and nothing is missing but places in the index.
 pub data Misses (s : State) (m : Result Message WireFault) (now : ℕ) (new : State) (step : ClientStep) : Type 0 where
   ended : MayMiss s m → new ≡ missed_at s m → step ≡ misses (Some by_memory) → Misses s m now new step
   lacks : Lacks s.index (entering s m) (got_step s m now) new step → Misses s m now new step

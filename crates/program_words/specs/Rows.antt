@@ -75,7 +75,7 @@ parted_off : said (codes "mount --port 7000 --drift 100 --" ∷ codes "mount -- 
 unfolding clap_on_literals lbfs asked_of
 parted_off = refl
 
--- an option that is wanting, one too many, one given twice, a number out of its range or with a leading zero or sign
+-- an option that is missing, one too many, one given twice, a number out of its range or with a leading zero or sign
 refused : said (codes "" ∷ codes "mount" ∷ codes "mount --port 7000" ∷ codes "mount --port 7000 --drift" ∷ codes "mount --port 7000 --drift 1 --drift 1" ∷ codes "mount --port 7000 --drift 1 x" ∷ codes "mount --port 0 --drift 1" ∷ codes "mount --port 65536 --drift 1" ∷ codes "mount --port 07000 --drift 1" ∷ codes "mount --port +7000 --drift 1" ∷ codes "mount --port 7000 --drift 3600001" ∷ codes "mount --por 7000 --drift 1" ∷ codes "serve --port 7000 --term 0 --sessions 1 --store d" ∷ codes "help" ∷ codes "--help" ∷ codes "mount --help" ∷ codes "frob" ∷ []) ≡ replicate 17 None
 unfolding clap_on_literals lbfs asked_of
 refused = refl

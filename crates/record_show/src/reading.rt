@@ -25,7 +25,7 @@ fn argument_bytes(alloc: Global, contents: &[u8]) -> Result<usize, AllocError>
     ensures { IfOk result (λ count. (xid : ℕ) (body : Body) → parse_of any_call contents.now ≡ Ok (messages.Call xid body) → count ≡ length (body_spell body)) }
 {
     let mut reader = Reader::new(contents);
-    // The header was read before, so only memory can be wanting.
+    // The header was read before, so only memory can run out.
     match Call::read(alloc, &mut reader) {
         Ok(_) => Ok(reader.left()),
         Err(_) => Err(AllocError),

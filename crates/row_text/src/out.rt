@@ -30,12 +30,12 @@ impl Out {
         }
     }
 
-    /// Memory was wanting for a part.
+    /// Memory ran out for a part.
     pub fn lack(&mut self) {
         self.is_short = true;
     }
 
-    /// Memory was wanting for a part, where this says so.
+    /// Memory ran out for a part, where this says so.
     pub fn note(&mut self, done: Result<(), AllocError>) {
         if done.is_err() {
             self.is_short = true;

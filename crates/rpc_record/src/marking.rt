@@ -27,7 +27,7 @@ fn header_of(len: usize) -> Result<[u8; 4], MarkError>
 
 /// A record as its only fragment: its header, and its bytes.
 ///
-/// More than `RECORD_MOST` bytes are refused as `TooBig`; else only memory can be wanting, and then nothing
+/// More than `RECORD_MOST` bytes are refused as `TooBig`; else only memory can run out, and then nothing
 /// is left.
 pub fn mark(alloc: Global, contents: &[u8]) -> Result<Bytes, MarkError>
     ensures too_big { RECORD_MOST < length contents.now → result ≡ Err (errors.TooBig (length contents.now)) }

@@ -130,7 +130,7 @@ impl Call {
         read
     }
 
-    /// Writes the header; only memory can be wanting, and then the writer holds what it held. The
+    /// Writes the header; only memory can run out, and then the writer holds what it held. The
     /// bodies of both authentication items are to have at most `AUTH_MOST` bytes, else no end reads it.
     pub fn write(&self, writer: &mut Writer) -> Result<(), AllocError>
         ensures spelled { OnOk result (writer.new ≡ writer.old ++ call_spell self.now) }
@@ -160,7 +160,7 @@ impl Reply {
         read
     }
 
-    /// Writes the header; only memory can be wanting, and then the writer holds what it held. The
+    /// Writes the header; only memory can run out, and then the writer holds what it held. The
     /// body of a verifier is to have at most `AUTH_MOST` bytes, else no end reads it.
     pub fn write(&self, writer: &mut Writer) -> Result<(), AllocError>
         ensures spelled { OnOk result (writer.new ≡ writer.old ++ reply_spell self.now) }

@@ -258,7 +258,7 @@ MayMiss s event.Connect = has_room s ≡ true
 MayMiss s (event.Got session (message.Call xid b) now) = (stands s session ≡ true) × TakesMemory (at s now) session b
 MayMiss s e = ⊥
 
--- What is done but for places for which memory was wanting: at least one is left out of the index.
+-- What is done but for places for which memory ran out: at least one is left out of the index.
 abbrev pub Lacks : Indexed → Option (ℕ × List Chunk) → State × ServerStep → State → ServerStep → Type 0
 Lacks index entered done new step = (left : Indexed) × IsLacking index entered left × (new ≡ with_index done.0 left) × (step ≡ record done.1 { missed = true })
 

@@ -12,7 +12,7 @@ pub hung_more : (s : State) (xs ys : List ℕ) → hung (hung s xs) ys ≡ hung 
 hung_more s [] ys = refl
 hung_more s (k ∷ ks) ys = hung_more (hangs_if s (stands s k) k).0 ks ys
 
--- where a connection is lost nothing may be wanting
+-- where a connection is lost nothing may be missing
 never_missed : (s : State) (session : ℕ) (new : State) (step : ServerStep) → Misses s (event.Hang session) new step → ⊥
 never_missed s session new step (nothing may left said) = may
 never_missed s session new step (lacks l) = l.1

@@ -55,7 +55,7 @@ made_last before after s new step session steps made = by_missed step.missed ref
         let never : told.Memory ≡ told.Session session = sym (missed_told s new step (steps.1 e)) ∙ made in cc
     by_missed false e = by_room (has_room s) (steps.0 e).is
 
--- where no session was made, and the server wasn't full, memory was wanting
+-- where no session was made, and the server wasn't full, memory ran out
 pub wanting : (t : Told) → (t ≡ told.Nothing) ⊎ (t ≡ told.Memory) ⊎ ((session : ℕ) × (xid : ℕ) × (t ≡ told.Settled session xid)) ⊎ (t ≡ told.NotReady) → went.Memory ≡ joined_as t []
 wanting t (inl is) = sym (ap (λ w. joined_as w []) is)
 wanting t (inr (inl is)) = sym (ap (λ w. joined_as w []) is)
@@ -88,7 +88,7 @@ module _ {S : Type 0} (records : S → Option (List Kept)) (faults : S → ℕ) 
     store = subst (λ k. StoreKeeps records faults old.kept k) (sym same) kept;
   }
 
-  -- or memory was wanting for the box, and it was hung
+  -- or memory ran out for the box, and it was hung
   pub joined_lost : (old between lacking : SharedServer S) (session : ℕ) (new : SharedServer S) (step : ServerStep) → Steps (faults old.kept.store) (faults between.kept.store) old.kept.server event.Connect between.kept.server step → StoreKeeps records faults old.kept between.kept → step.told ≡ told.Session session → between.boxes ≡ old.boxes → lacking.kept ≡ between.kept → KeepsOthers between.boxes lacking.boxes session → Left records faults lacking session new → Joined records faults old went.Memory new
   joined_lost old between lacking session new step steps kept made boxes same keeps left =
       let after : StoreKeeps records faults between.kept new.kept = subst (λ k. StoreKeeps records faults k new.kept) same left.store in

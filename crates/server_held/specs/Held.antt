@@ -128,7 +128,7 @@ module _ {S : Type 0} where
     pub kept : new.kept ≡ old.kept
 
 module _ {S : Type 0} (records : S → Option (List Kept)) (faults : S → ℕ) where
-  -- These messages are in the boxes of their sessions. A session for whose message memory was wanting was hung instead, and memory didn't suffice.
+  -- These messages are in the boxes of their sessions. A session for whose message memory ran out was hung instead, and memory didn't suffice.
   pub record Delivered (old : SharedServer S) (sent : List Sent) (sufficed : Bool) (new : SharedServer S) : Type 0 where
     pub lost : List ℕ
     pub hangs : new.kept.server ≡ hung old.kept.server lost
@@ -136,7 +136,7 @@ module _ {S : Type 0} (records : S → Option (List Kept)) (faults : S → ℕ) 
     pub cause : sufficed ≡ true → lost ≡ []
     pub store : StoreKeeps records faults old.kept new.kept
 
-  -- The event was one step, whose messages are in the boxes of their sessions. A session for whose message memory was wanting was hung instead.
+  -- The event was one step, whose messages are in the boxes of their sessions. A session for whose message memory ran out was hung instead.
   pub record Took (old : SharedServer S) (e : Event) (said : Went) (new : SharedServer S) : Type 0 where
     pub step : ServerStep
     pub between : State
@@ -148,7 +148,7 @@ module _ {S : Type 0} (records : S → Option (List Kept)) (faults : S → ℕ) 
     pub answer : Answers e step new said
     pub store : StoreKeeps records faults old.kept new.kept
 
-  -- A session was made, which is open and has an empty box; where memory was wanting for the box it was hung, and no other. Or none was made, and no box changed.
+  -- A session was made, which is open and has an empty box; where memory ran out for the box it was hung, and no other. Or none was made, and no box changed.
   pub record Joined (old : SharedServer S) (said : Went) (new : SharedServer S) : Type 0 where
     pub step : ServerStep
     pub between : State
@@ -184,7 +184,7 @@ module _ {S : Type 0} (records : S → Option (List Kept)) (faults : S → ℕ) 
   Unheard old session (NotRpc at) said new = Left old session new × (said ≡ went.Closed)
   Unheard old session (Garbage at) said new = Left old session new × (said ≡ went.Closed)
 
-  -- the same; or memory was wanting for the message, and the session was hung
+  -- the same; or memory ran out for the message, and the session was hung
   abbrev pub Unread : SharedServer S → (session : ℕ) → WireError → Went → SharedServer S → Type 0
   Unread old session errors.Memory said new = Left old session new × (said ≡ went.Memory)
   Unread old session (errors.Fault fault) said new = Unheard old session fault said new
@@ -194,6 +194,6 @@ module _ {S : Type 0} (records : S → Option (List Kept)) (faults : S → ℕ) 
   Heard old session now (Ok message) said new = Took old (event.Got session message now) said new
   Heard old session now (Err fault) said new = Unheard old session fault said new
 
-  -- the same; or memory was wanting for the message
+  -- the same; or memory ran out for the message
   abbrev pub HeardOrLeft : SharedServer S → (session now : ℕ) → Result Message WireFault → Went → SharedServer S → Type 0
   HeardOrLeft old session now parsed said new = Heard old session now parsed said new ⊎ Unread old session errors.Memory said new

@@ -287,7 +287,7 @@ pub(crate) fn behind_in<H: Turns>(
 }
 
 /// The bits of those whose session an event may have ended: that of its own session, where it went, and
-/// all where memory was wanting.
+/// all where memory ran out.
 pub(crate) fn gone(went: Went, own: u64) -> u64 {
     match went {
         Went::Closed => own,

@@ -484,7 +484,7 @@ impl<H: Turns + Drop, Y: Syncs, G: Gate + Drop, L: Link + Drop> Shared<H, Y, G, 
     }
 
     /// Wakes the threads of these places that have nothing to say: now they have, or their session went.
-    /// Where memory was wanting, another thread's session may have been hung: its link is shut, so
+    /// Where memory ran out, another thread's session may have been hung: its link is shut, so
     /// that its threads come back that wait there.
     fn wake<W: Wait>(&self, rt: &W, pass: Pass<H>, went: Went, places: u64) -> Pass<H>
         requires { IsPassOf self.now.post pass }

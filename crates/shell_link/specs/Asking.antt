@@ -183,7 +183,7 @@ pub data MayLearn (s : State) : State → Type 0 where
   nothing_learned : (t : State) → t ≡ s → MayLearn s t
   learned : (file : ℕ) (left_out : Bool) (t : State) → Learns s file left_out t → MayLearn s t
 
--- the items of a cache file are the client's; or memory was wanting, and nothing is
+-- the items of a cache file are the client's; or memory ran out, and nothing is
 abbrev pub MayWarm : State → List ℕ → (done : Bool) → State → Type 0
 MayWarm s bytes true t = (left_out : Bool) × Warms s (items bytes) left_out t
 MayWarm s bytes false t = t ≡ s

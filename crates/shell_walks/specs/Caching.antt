@@ -30,7 +30,7 @@ pub record Writes {F : Type 0} (writes : F → List ℕ → List ℕ → Result 
   pub written : writes host name bytes wrote host'
   pub is_told : wrong ≡ unwritten wrote
 
--- with what the client has for it; or memory is wanting, and nothing is written
+-- with what the client has for it; or memory runs out, and nothing is written
 pub data Saves {R F : Type 0} (saves : R → List ℕ → Type 0) (writes : F → List ℕ → List ℕ → Result Unit LocalFault → F → Type 0) (r : R) (host : F) (name : List ℕ) (wrong : Option LocalFault) (host' : F) : Type 0 where
   saved : (bytes : List ℕ) → saves r bytes → Writes writes host name bytes wrong host' → Saves saves writes r host name wrong host'
   not_saved : wrong ≡ Some fault.Memory → host' ≡ host → Saves saves writes r host name wrong host'

@@ -158,9 +158,9 @@ pub fn mistake_words(mistake: Mistake) -> &'static [u8]
         Mistake::NoVersions => {
             b"storing over one version alone isn't there yet: servers have no call for it"
         }
-        Mistake::NoPath => b"PATH is wanting",
-        Mistake::NoSecondPath => b"a second PATH is wanting",
-        Mistake::NoLocal => b"LOCAL is wanting",
+        Mistake::NoPath => b"PATH is missing",
+        Mistake::NoSecondPath => b"a second PATH is missing",
+        Mistake::NoLocal => b"LOCAL is missing",
         Mistake::TooMany => b"there is a word too many (one name at a time)",
         Mistake::NoName => b"a name is empty",
         Mistake::LongName => b"a name is too long",

@@ -67,7 +67,7 @@ most_of verb.Mv = 2
 most_of verb.Sync = 2
 most_of v = 1
 
--- which one is wanting, where there are so many, fewer than it has
+-- which one is missing, where there are so many, fewer than it has
 abbrev pub wanting : Verb → ℕ → Mistake
 wanting verb.Put n = mistake.NoLocal
 wanting verb.Sync n = if n == 0 then mistake.NoLocal else mistake.NoPath

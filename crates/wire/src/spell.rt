@@ -54,7 +54,7 @@ fn spell_behind(alloc: Global, message: &Message) -> Result<Vec<u8>, AllocError>
 /// The record of a message as it is sent: what `spell` gives, marked as its only fragment. It is
 /// spelled where it is sent from, behind its header, so that none of its bytes is copied again.
 ///
-/// More than `RECORD_MOST` bytes are refused as `TooBig`; else only memory can be wanting.
+/// More than `RECORD_MOST` bytes are refused as `TooBig`; else only memory can run out.
 pub fn spell_marked(alloc: Global, message: &Message) -> Result<Bytes, MarkError>
     ensures marked { IfOk result (λ bytes. bytes ≡ marked (message_spell message.now)) }
     ensures within { OnOk result (length (message_spell message.now) ≤ RECORD_MOST) }

@@ -47,7 +47,7 @@ pub fn read_outcome(reader: &mut Reader) -> Result<Option<Status>, ReadError>
     }
 }
 
-/// Writes whether the call was done, or why not; only memory can be wanting.
+/// Writes whether the call was done, or why not; only memory can run out.
 #[tactic(auto, unfolding(crate::specs::Answers::outcome_form))]
 pub fn write_outcome(writer: &mut Writer, outcome: Option<Status>) -> Result<(), AllocError>
     ensures { OnOk result (writer.new ≡ writer.old ++ outcome_form.spell outcome) }

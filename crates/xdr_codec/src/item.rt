@@ -29,7 +29,7 @@ pub trait Item: Sized + Drop {
     fn read(alloc: Global, reader: &mut Reader) -> Result<Self, ReadError>
         ensures { Gives result reader.new (form.read reader.old) };
 
-    /// Writes its spelling; only memory can be wanting. After an `Err` the writer may hold a part of
+    /// Writes its spelling; only memory can run out. After an `Err` the writer may hold a part of
     /// it; `write_item` leaves what it held.
     fn write(&self, writer: &mut Writer) -> Result<(), AllocError>
         ensures spelled { OnOk result (writer.new ≡ writer.old ++ form.spell self.now) }

@@ -36,7 +36,7 @@ pub trait ProgramBody: Sized + Drop {
 
     ghost IsShort: { Self → Type 0 };
 
-    // memory may be wanting to read the results
+    // memory may run out to read the results
     ghost MayWant: { Self.Procedure → Type 0 };
 
     ghost args_fit: { (p : Self.Procedure) (m : Self) → (args_form p).Fits m → IsArgs p m };
@@ -70,7 +70,7 @@ pub trait ProgramBody: Sized + Drop {
         ensures gives { Gives result reader.new ((results_form procedure).read reader.old) }
         ensures calm { IsErrOf result ReadError.Memory → MayWant procedure };
 
-    /// Writes the spelling; only memory can be wanting. After an `Err` the writer may hold a part of
+    /// Writes the spelling; only memory can run out. After an `Err` the writer may hold a part of
     /// it.
     fn write_in(&self, writer: &mut Writer) -> Result<(), AllocError>
         ensures spelled { OnOk result (writer.new ≡ writer.old ++ spell self.now) }

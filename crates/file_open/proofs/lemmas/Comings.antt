@@ -14,7 +14,7 @@ use Rattle.client_state.specs.declared.step.ClientStep.{ClientStep}
 apart : false ≡ true → ⊥
 apart e = cc
 
--- nothing is wanting
+-- nothing is missing
 pub comes_so : {enters : Option Entering} (old : Indexed) (comes : State × ClientStep) (new : State) (step : ClientStep) → comes ≡ (new, step) → step.missed ≡ false → Comes old enters comes new step
 comes_so old comes new step so told = record { exact = λ e. so; lacks = λ e. absurd (apart (sym told ∙ e)) }
 
