@@ -52,6 +52,7 @@ pub fn hang<L: KeepsLeases, P>(
     ensures leases { L.leases leases.new ≡ L.leases leases.old }
     ensures room { L.room leases.new ≡ L.room leases.old }
 {
+    // The contract alone names it.
     let _leases = leases;
     take_out(waits, at)
 }

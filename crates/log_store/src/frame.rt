@@ -58,6 +58,7 @@ pub fn frame_at(number: u64, bytes: &[u8]) -> Option<&[u8]>
     if !is_whole(number, front, sum, payload) {
         return None;
     }
+    // The proof alone names it.
     let _rest = rest;
     Some(payload)
 }

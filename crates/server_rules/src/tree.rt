@@ -28,6 +28,7 @@ pub fn changes_after(changes: u64, more: u64) -> u64
 pub fn next_once_gone(next: u64, gone: u64) -> u64
     ensures { result ≡ next }
 {
+    // It is lent so that giving the id again is a bug that can be tried (`must-fail`).
     let _gone = gone;
     next
 }

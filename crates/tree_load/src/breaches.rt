@@ -140,6 +140,7 @@ fn sum_with<'a>(
     ensures sum { result ≡ sum_with rule sum one.now }
     ensures small { result ≤ tree_most }
 {
+    // The contract alone names it.
     let _known = known;
     match rule {
         None => sum + size_of(one),

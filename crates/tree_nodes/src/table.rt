@@ -90,6 +90,7 @@ fn comes_before(
 pub fn len(slots: &Slots, order: &BlockList) -> usize
     ensures { result ≡ length (shown slots.now.items order.now.items) }
 {
+    // The contract alone names it.
     let _places = slots;
     order.len()
 }

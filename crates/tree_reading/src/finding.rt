@@ -112,6 +112,7 @@ pub fn known(nodes: &Nodes, changes: u64, id: u64) -> Result<&Node, Status>
     ensures exact { lent result ≡ node_of nodes.now.nodes id }
     ensures bounded { IfOk result (λ n. IsNodeBounded nodes.now.next changes n.now) }
 {
+    // The contract alone names it.
     let _changes = changes;
     node_of(nodes, id)
 }
@@ -137,6 +138,7 @@ pub fn named_within<'a>(
     ensures exact { lent result ≡ or_no_entry (named nodes.now.nodes dir name.now) }
     ensures bounded { IfOk result (λ n. IsNodeBounded nodes.now.next changes n.now) }
 {
+    // The contract alone names it.
     let _changes = changes;
     found(nodes, dir, name)
 }

@@ -101,6 +101,7 @@ fn attr_within(nodes: &Nodes, changes: u64, node: &Node) -> Attr
     requires node { IsNodeBounded nodes.now.next changes node.now }
     ensures { result ≡ attr_of nodes.now.nodes node.now }
 {
+    // The contract alone names it.
     let _changes = changes;
     attr_of(nodes, node)
 }
@@ -191,6 +192,7 @@ pub fn node(nodes: &Nodes, changes: u64, id: u64) -> Option<&Node>
     ensures node { option_copied result ≡ with_id nodes.now.nodes id }
     ensures short { IfSome result (λ n. length (content_of n.now.body) ≤ file_most) }
 {
+    // The contract alone names it.
     let _changes = changes;
     nodes.with_id(id)
 }
@@ -284,6 +286,7 @@ fn stands_within<'a>(
     ensures exact { lent result ≡ looked nodes.now.nodes dir.now name.now }
     ensures bounded { IfOk result (λ n. IsNodeBounded nodes.now.next changes n.now) }
 {
+    // The contract alone names it.
     let _changes = changes;
     stands_for(nodes, dir, name)
 }
