@@ -22,7 +22,7 @@ use Rattle.kept_promise.proofs.Serves.{answered, leads_answer, parsed_at, serves
 use Rattle.kept_promise.proofs.Tells.{hash_range, lease_reply, lease_reply_fits, lease_told, hash_reply, hash_reply_fits, hash_told, read_reply, read_reply_fits, read_told, walk_told}
 use Rattle.kept_promise.proofs.Shelves.{of_inserted, of_lookup, keys_tell, keys_number, parts_put}
 use Rattle.kept_promise.proofs.Shelf.{IsShelf, NoTemp, shelf_put, one_put, other_put}
-use Rattle.kept_promise.proofs.Orderly.{locals_of, InPlace, Wanted, Holds, HeldIn, Held, Orderly, DownRefused}
+use Rattle.kept_promise.proofs.Orderly.{locals_of, InPlace, Wanted, Holds, HeldIn, HoldsTemp, Orderly, DownRefused}
 use Rattle.kept_promise.proofs.Ordered.{IsQuietCall, TellsNone, held_told, held_rest, held_first, place_first, refused_before}
 use Rattle.kept_promise.proofs.Chunks.{chunks_are_named}
 use Rattle.kept_promise.proofs.Stored.{in_store}
@@ -45,7 +45,7 @@ downs_then x q a r = unless x.cut q.downs (record { xid = a.xid; reply = r } ∷
 
 -- ---- what is answered with no change of the temporary files
 
-pub same_temps : (book : Book) (k : Core) (n : ℕ) (x : Session) (q : Queue) (a : Ask) (r : Reply) (h : IsSession book k.seats k.server n x q) → IsShelf k.server.temps → (x.cut ≡ false → Wanted (onward book 1 book.ops) (job h.seat) a.xid r) → (x.cut ≡ false → (us : List Ask) → q.ups ≡ a ∷ us → Held k.server.temps n us (downs_then x q a r) (locals_of h.seat.client) (job h.seat)) → reply_program r ≡ call_program a.call → ToldFits book.lbfs (record { xid = a.xid; reply = r })
+pub same_temps : (book : Book) (k : Core) (n : ℕ) (x : Session) (q : Queue) (a : Ask) (r : Reply) (h : IsSession book k.seats k.server n x q) → IsShelf k.server.temps → (x.cut ≡ false → Wanted (onward book 1 book.ops) (job h.seat) a.xid r) → (x.cut ≡ false → (us : List Ask) → q.ups ≡ a ∷ us → HoldsTemp k.server.temps n us (downs_then x q a r) (locals_of h.seat.client) (job h.seat)) → reply_program r ≡ call_program a.call → ToldFits book.lbfs (record { xid = a.xid; reply = r })
     → (x.cut ≡ false → AnswerOf (onward book 1 book.ops) (x.taken ++ record { xid = a.xid; step = book.steps + 1 } ∷ []) x.closing (job h.seat) a.xid r) → Answers book k n x q a k.server.temps r h
 same_temps book k n x q a r h shelf wanted held program fits answer = record {
   shelf = shelf;
@@ -62,7 +62,7 @@ same_temps book k n x q a r h shelf wanted held program fits answer = record {
 
 -- ---- what is answered with one put in
 
-pub put_temp : (book : Book) (k : Core) (n : ℕ) (x : Session) (q : Queue) (a : Ask) (r : Reply) (m : ℕ) (t : Temp) (h : IsSession book k.seats k.server n x q) → IsShelf k.server.temps → t.fd < 4294967296 → (x.cut ≡ false → Wanted (onward book 1 book.ops) (job h.seat) a.xid r) → (x.cut ≡ false → (us : List Ask) → q.ups ≡ a ∷ us → Held (with_temp k.server.temps t) n us (downs_then x q a r) (locals_of h.seat.client) (job h.seat)) → reply_program r ≡ call_program a.call → ToldFits book.lbfs (record { xid = a.xid; reply = r })
+pub put_temp : (book : Book) (k : Core) (n : ℕ) (x : Session) (q : Queue) (a : Ask) (r : Reply) (m : ℕ) (t : Temp) (h : IsSession book k.seats k.server n x q) → IsShelf k.server.temps → t.fd < 4294967296 → (x.cut ≡ false → Wanted (onward book 1 book.ops) (job h.seat) a.xid r) → (x.cut ≡ false → (us : List Ask) → q.ups ≡ a ∷ us → HoldsTemp (with_temp k.server.temps t) n us (downs_then x q a r) (locals_of h.seat.client) (job h.seat)) → reply_program r ≡ call_program a.call → ToldFits book.lbfs (record { xid = a.xid; reply = r })
     → (x.cut ≡ false → AnswerOf (onward book 1 book.ops) (x.taken ++ record { xid = a.xid; step = book.steps + 1 } ∷ []) x.closing (job h.seat) a.xid r)
     → m < 4294967296 → key_of t.session t.fd ≡ key_of n m → AreParts (hashed_of book.moments) (h.contents m) t.pieces → (x.cut ≡ false → m < h.seat.client.next_temp) → Answers book k n x q a (with_temp k.server.temps t) r h
 put_temp book k n x q a r m t h shelf number wanted held program fits answer small keyed parts under = record {
@@ -135,14 +135,14 @@ leads_by book k qs n now x q a us temps index r g shows = leads_with book k qs n
 
 -- what is held of a session once a call was taken that leaves it as it was
 pub held_still : (book : Book) (k : Core) (qs : List Queue) (n now : ℕ) (x : Session) (q : Queue) (a : Ask) (us : List Ask) → (g : Given book k qs n now x q a us) → (r : Reply) → TellsNone r → IsQuietCall a.call → x.cut ≡ false → (vs : List Ask) → q.ups ≡ a ∷ vs
-    → Held k.server.temps n vs (downs_then x q a r) (locals_of (session_in book k qs n now x q a us g).seat.client) (job (session_in book k qs n now x q a us g).seat)
+    → HoldsTemp k.server.temps n vs (downs_then x q a r) (locals_of (session_in book k qs n now x q a us g).seat.client) (job (session_in book k qs n now x q a us g).seat)
 held_still book k qs n now x q a us g r none quiet uncut vs e =
     let h = session_in book k qs n now x q a us g in
     let rest = held_rest k.server.temps n a vs q.downs (locals_of h.seat.client) (job h.seat) quiet (held_first book n k.server.temps q a vs h.seat e (subst (λ (b : Bool). Orderly book n k.server.temps b q h.seat) g.unhung (h.orderly uncut))) in
     held_told k.server.temps n vs q.downs (record { xid = a.xid; reply = r }) x.cut (locals_of h.seat.client) (job h.seat) none rest
 
 -- what is held of a session whose first call is this, and that the call is in order
-pub held_at : (book : Book) (k : Core) (qs : List Queue) (n now : ℕ) (x : Session) (q : Queue) (a : Ask) (us : List Ask) → (g : Given book k qs n now x q a us) → x.cut ≡ false → Held k.server.temps n (a ∷ us) q.downs (locals_of (session_in book k qs n now x q a us g).seat.client) (job (session_in book k qs n now x q a us g).seat)
+pub held_at : (book : Book) (k : Core) (qs : List Queue) (n now : ℕ) (x : Session) (q : Queue) (a : Ask) (us : List Ask) → (g : Given book k qs n now x q a us) → x.cut ≡ false → HoldsTemp k.server.temps n (a ∷ us) q.downs (locals_of (session_in book k qs n now x q a us g).seat.client) (job (session_in book k qs n now x q a us g).seat)
 held_at book k qs n now x q a us g uncut =
     let h = session_in book k qs n now x q a us g in
     held_first book n k.server.temps q a us h.seat g.first (subst (λ (b : Bool). Orderly book n k.server.temps b q h.seat) g.unhung (h.orderly uncut))
@@ -237,7 +237,7 @@ serve_walk laws book k qs n now x q lbfs xid w us g none =
     sent = subst (λ (l : List Sent). Contains l answer) (sym (walk_sent laws book k qs n now x q lbfs xid w us g none)) (Contains-push [] answer)
 
 -- an answer that has nothing to tell
-pub serve_plain : FitLaws → (book : Book) (k : Core) (qs : List Queue) (n now : ℕ) (x : Session) (q : Queue) (a : Ask) (us : List Ask) (index : Indexed) (r : Reply) → (g : Given book k qs n now x q a us) → (x.cut ≡ false → Wanted (onward book 1 book.ops) (job (session_in book k qs n now x q a us g).seat) a.xid r) → (x.cut ≡ false → (vs : List Ask) → q.ups ≡ a ∷ vs → Held k.server.temps n vs (downs_then x q a r) (locals_of (session_in book k qs n now x q a us g).seat.client) (job (session_in book k qs n now x q a us g).seat))
+pub serve_plain : FitLaws → (book : Book) (k : Core) (qs : List Queue) (n now : ℕ) (x : Session) (q : Queue) (a : Ask) (us : List Ask) (index : Indexed) (r : Reply) → (g : Given book k qs n now x q a us) → (x.cut ≡ false → Wanted (onward book 1 book.ops) (job (session_in book k qs n now x q a us g).seat) a.xid r) → (x.cut ≡ false → (vs : List Ask) → q.ups ≡ a ∷ vs → HoldsTemp k.server.temps n vs (downs_then x q a r) (locals_of (session_in book k qs n now x q a us g).seat.client) (job (session_in book k qs n now x q a us g).seat))
     → reply_program r ≡ call_program a.call → IsPlain r → a.xid < 4294967296 → (x.cut ≡ false → AnswerOf (onward book 1 book.ops) (x.taken ++ record { xid = a.xid; step = book.steps + 1 } ∷ []) x.closing (job (session_in book k qs n now x q a us g).seat) a.xid r) → Leads book (rest_of qs n q us) (answered k n (later k.server.leasing now) x a k.server.temps index r)
 serve_plain laws book k qs n now x q a us index r g wanted held program plain lt answer = leads_by book k qs n now x q a us k.server.temps index r g (same_temps book k n x q a r (session_in book k qs n now x q a us g) g.kept.shelf wanted held program (laws.plain book.lbfs a.xid r lt plain) answer)
 
@@ -260,7 +260,7 @@ serve_make laws book k qs n now x q lbfs xid m f us g = by (node_of k.server.tre
     none : x.cut ≡ false → NoTemp k.server.temps n
     none uncut =
         let p = place_at book k qs n now x q a us g uncut in
-        let held = subst (Held k.server.temps n (a ∷ us) q.downs (locals_of h.seat.client)) p.1 (held_at book k qs n now x q a us g uncut) in
+        let held = subst (HoldsTemp k.server.temps n (a ∷ us) q.downs (locals_of h.seat.client)) p.1 (held_at book k qs n now x q a us g uncut) in
         (subst (HeldIn k.server.temps n (a ∷ us) q.downs (locals_of h.seat.client p.0.file)) p.2 held).0 (0, m, f, lbfs, refl)
 
     node : x.cut ≡ false → IsStill k.server f ⊎ IsNone book k.server f
@@ -281,10 +281,10 @@ serve_make laws book k qs n now x q lbfs xid m f us g = by (node_of k.server.tre
         told : x.cut ≡ false → DownRefused (downs_then x q a (Made (Failed e tt))) xid
         told uncut = subst (λ (b : Bool). DownRefused (unless b q.downs (record { xid = xid; reply = Made (Failed e tt) } ∷ [])) xid) (sym uncut) (length q.downs, e, tt, at_end q.downs (record { xid = xid; reply = Made (Failed e tt) }))
 
-        left : x.cut ≡ false → (vs : List Ask) → q.ups ≡ a ∷ vs → Held k.server.temps n vs (downs_then x q a (Made (Failed e tt))) (locals_of h.seat.client) (job h.seat)
+        left : x.cut ≡ false → (vs : List Ask) → q.ups ≡ a ∷ vs → HoldsTemp k.server.temps n vs (downs_then x q a (Made (Failed e tt))) (locals_of h.seat.client) (job h.seat)
         left uncut vs first =
             let p = place_at book k qs n now x q a us g uncut in
-            subst (Held k.server.temps n vs (downs_then x q a (Made (Failed e tt))) (locals_of h.seat.client)) (sym p.1)
+            subst (HoldsTemp k.server.temps n vs (downs_then x q a (Made (Failed e tt))) (locals_of h.seat.client)) (sym p.1)
             (subst (HeldIn k.server.temps n vs (downs_then x q a (Made (Failed e tt))) (locals_of h.seat.client p.0.file)) (sym p.2)
             ((λ u. none uncut), (λ u d. absurd (d (told uncut))), λ d. none uncut))
 
@@ -297,12 +297,12 @@ serve_make laws book k qs n now x q lbfs xid m f us g = by (node_of k.server.tre
     made : x.cut ≡ false → Wanted (onward book 1 book.ops) (job h.seat) xid (Made (Done tt))
     made uncut = let p = place_at book k qs n now x q a us g uncut in (p.0, m, p.1, p.2, tt)
 
-    held : (t : Temp) → t.session ≡ n → t.fd ≡ m → t.pieces ≡ [] → x.cut ≡ false → (vs : List Ask) → q.ups ≡ a ∷ vs → Held (with_temp k.server.temps t) n vs ts (locals_of h.seat.client) (job h.seat)
+    held : (t : Temp) → t.session ≡ n → t.fd ≡ m → t.pieces ≡ [] → x.cut ≡ false → (vs : List Ask) → q.ups ≡ a ∷ vs → HoldsTemp (with_temp k.server.temps t) n vs ts (locals_of h.seat.client) (job h.seat)
     held t session number empty uncut vs e =
         let p = place_at book k qs n now x q a us g uncut in
         let same : us ≡ vs = tails (sym g.first ∙ e) in
-        subst (λ (l : List Ask). Held (with_temp k.server.temps t) n l ts (locals_of h.seat.client) (job h.seat)) same
-        (subst (Held (with_temp k.server.temps t) n us ts (locals_of h.seat.client)) (sym p.1)
+        subst (λ (l : List Ask). HoldsTemp (with_temp k.server.temps t) n l ts (locals_of h.seat.client) (job h.seat)) same
+        (subst (HoldsTemp (with_temp k.server.temps t) n us ts (locals_of h.seat.client)) (sym p.1)
         (subst (HeldIn (with_temp k.server.temps t) n us ts (locals_of h.seat.client p.0.file)) (sym p.2)
         ((λ u. absurd (rest_above book k qs n now x q a us g uncut u.0 (record { lbfs = u.3; xid = xid; call = Make u.1 u.2 }) u.4 refl)), (λ u d. (t, one_put k.server.temps n m t fits.1 session number (λ o lt apart. none uncut o lt), empty)), λ d. absurd (unrefused uncut d))))
       where
@@ -352,12 +352,12 @@ serve_send laws book k qs n now x q lbfs xid m start bytes us g = by (temp_at k.
     fits = first_fits book k qs n now x q a us g
 
     -- where its client is there, the bytes of a chunk are put into the one temporary file, which had not held them
-    goes : x.cut ≡ false → (t : Temp) × (temp_at k.server.temps n m ≡ Some t) × (piece_fault (temp_at k.server.temps n m) start (length bytes) ≡ None) × (t.session ≡ n) × (t.fd ≡ m) × Held (with_temp k.server.temps (with_piece t start bytes)) n us q.downs (locals_of h.seat.client) (job h.seat)
+    goes : x.cut ≡ false → (t : Temp) × (temp_at k.server.temps n m ≡ Some t) × (piece_fault (temp_at k.server.temps n m) start (length bytes) ≡ None) × (t.session ≡ n) × (t.fd ≡ m) × HoldsTemp (with_temp k.server.temps (with_piece t start bytes)) n us q.downs (locals_of h.seat.client) (job h.seat)
     goes uncut =
         let p = place_at book k qs n now x q a us g uncut in
         let s = p.0 in
         let v = locals_of h.seat.client s.of.file in
-        let held = subst (HeldIn k.server.temps n (a ∷ us) q.downs v) s.at (subst (Held k.server.temps n (a ∷ us) q.downs (locals_of h.seat.client)) s.is (held_at book k qs n now x q a us g uncut)) in
+        let held = subst (HeldIn k.server.temps n (a ∷ us) q.downs v) s.at (subst (HoldsTemp k.server.temps n (a ∷ us) q.downs (locals_of h.seat.client)) s.is (held_at book k qs n now x q a us g uncut)) in
         let is = in_store book k.seats k.server n x q h uncut xid way.Whole s in
         let t = held.0 in
         let one = held.1 in
@@ -369,7 +369,7 @@ serve_send laws book k qs n now x q lbfs xid m start bytes us g = by (temp_at k.
         let count : length bytes ≡ c.len = ap (λ (l : List ℕ). length l) chunk.3 ∙ (chunks_are_named v s.call.index c at_chunk).1 in
         let none : piece_fault (temp_at k.server.temps n m) start (length bytes) ≡ None = ap (λ (o : Option Temp). piece_fault o start (length bytes)) found ∙ ap (λ (z : ℕ). range_fault t.pieces z (length bytes)) chunk.2 ∙ ap (range_fault t.pieces c.start) count ∙ taken.0 in
         let filled : Holds v us q.downs s.store (insert_entry nat_cmp t.pieces start bytes) = subst (λ (z : ℕ). Holds v us q.downs s.store (insert_entry nat_cmp t.pieces z bytes)) (sym chunk.2) (subst (λ (l : List ℕ). Holds v us q.downs s.store (insert_entry nat_cmp t.pieces c.start l)) (sym chunk.3) taken.1) in
-        (t, found, none, one.1, one.2 ∙ p.1, subst (Held (with_temp k.server.temps (with_piece t start bytes)) n us q.downs (locals_of h.seat.client)) (sym s.is) (subst (HeldIn (with_temp k.server.temps (with_piece t start bytes)) n us q.downs v) (sym s.at) (with_piece t start bytes, one_put k.server.temps n s.store.temp (with_piece t start bytes) one.0 one.1 one.2 one.4, filled)))
+        (t, found, none, one.1, one.2 ∙ p.1, subst (HoldsTemp (with_temp k.server.temps (with_piece t start bytes)) n us q.downs (locals_of h.seat.client)) (sym s.is) (subst (HeldIn (with_temp k.server.temps (with_piece t start bytes)) n us q.downs v) (sym s.at) (with_piece t start bytes, one_put k.server.temps n s.store.temp (with_piece t start bytes) one.0 one.1 one.2 one.4, filled)))
 
     plain : (o : Option Status) → (x.cut ≡ false → ⊥) → Leads book (rest_of qs n q us) (answered k n (later k.server.leasing now) x a k.server.temps k.server.index (Stored (done_unless o)))
     plain o never = serve_plain laws book k qs n now x q a us k.server.index (Stored (done_unless o)) g (λ uncut. absurd (never uncut)) (λ uncut. absurd (never uncut)) refl tt fits.0 (λ uncut. tt)
@@ -388,9 +388,9 @@ serve_send laws book k qs n now x q lbfs xid m start bytes us g = by (temp_at k.
         tails : {b c : Ask} {us vs : List Ask} → b ∷ us ≡ c ∷ vs → us ≡ vs
         tails e = cc
 
-        after : x.cut ≡ false → (vs : List Ask) → q.ups ≡ a ∷ vs → (t : Temp) → temp_at k.server.temps n m ≡ Some t → Held (with_temp k.server.temps (with_piece t start bytes)) n vs (downs_then x q a (Stored (Done tt))) (locals_of h.seat.client) (job h.seat)
+        after : x.cut ≡ false → (vs : List Ask) → q.ups ≡ a ∷ vs → (t : Temp) → temp_at k.server.temps n m ≡ Some t → HoldsTemp (with_temp k.server.temps (with_piece t start bytes)) n vs (downs_then x q a (Stored (Done tt))) (locals_of h.seat.client) (job h.seat)
         after uncut vs e t found =
             let w = goes uncut in
             let same : us ≡ vs = tails (sym g.first ∙ e) in
             held_told (with_temp k.server.temps (with_piece t start bytes)) n vs q.downs (record { xid = xid; reply = Stored (Done tt) }) x.cut (locals_of h.seat.client) (job h.seat) tt
-            (subst (λ (l : List Ask). Held (with_temp k.server.temps (with_piece t start bytes)) n l q.downs (locals_of h.seat.client) (job h.seat)) same (subst (λ (z : Temp). Held (with_temp k.server.temps (with_piece z start bytes)) n us q.downs (locals_of h.seat.client) (job h.seat)) (some_is w.0 t (sym w.1 ∙ found)) w.5))
+            (subst (λ (l : List Ask). HoldsTemp (with_temp k.server.temps (with_piece t start bytes)) n l q.downs (locals_of h.seat.client) (job h.seat)) same (subst (λ (z : Temp). HoldsTemp (with_temp k.server.temps (with_piece z start bytes)) n us q.downs (locals_of h.seat.client) (job h.seat)) (some_is w.0 t (sym w.1 ∙ found)) w.5))

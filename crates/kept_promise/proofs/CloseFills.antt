@@ -6,7 +6,7 @@ use Rattle.client_state.specs.declared.task.Way.TheVariants as way
 use Rattle.kept_promise.proofs.Common.{slice_get, chunk_bytes, Chunk, store_of, store_at, answered, with_whole, Stage, Upload, UploadCall, Way, Core, Session, Book, Call.Make, Call.Send, Reply, Ask, Told, Queue, Status, Done, Failed, Reply.Made}
 use Rattle.kept_promise.proofs.Lists.{some_is}
 use Rattle.kept_promise.proofs.Messages.{Job}
-use Rattle.kept_promise.proofs.Orderly.{locals_of, UpMake, UpSend, DownKnown, known_reply, Holds, HeldIn, Held, DownRefused}
+use Rattle.kept_promise.proofs.Orderly.{locals_of, UpMake, UpSend, DownKnown, known_reply, Holds, HeldIn, HoldsTemp, DownRefused}
 use Rattle.kept_promise.proofs.Ordered.{TellsNone}
 use Rattle.kept_promise.proofs.OrderSteps.{up_apart, down_apart}
 use Rattle.kept_promise.proofs.Filling.{holds_first, holds_answered, holds_heard, holds_known_heard, holds_whole}
@@ -17,7 +17,7 @@ use Rattle.kept_promise.proofs.Stored.{InStore, in_store}
 held_now : (book : Book) (k : Core) (qs : List Queue) (n : ℕ) (x : Session) (q : Queue) (t : Told) (ts : List Told) (j : Job) (g : Here book k qs n x q t ts j) (s : Stage) → j.stage ≡ s → x.hung ≡ false → HeldIn k.server.temps n q.ups (t ∷ ts) (local_of g) s
 held_now book k qs n x q t ts j g s at up =
     let h = session_at book k qs n x q t ts j g in
-    subst (HeldIn k.server.temps n q.ups (t ∷ ts) (local_of g)) at (subst (λ (l : List Told). Held k.server.temps n q.ups l (locals_of h.seat.client) (Some j)) g.first (subst (Held k.server.temps n q.ups q.downs (locals_of h.seat.client)) g.job_is ((h.orderly g.uncut).holds up)))
+    subst (HeldIn k.server.temps n q.ups (t ∷ ts) (local_of g)) at (subst (λ (l : List Told). HoldsTemp k.server.temps n q.ups l (locals_of h.seat.client) (Some j)) g.first (subst (HoldsTemp k.server.temps n q.ups q.downs (locals_of h.seat.client)) g.job_is ((h.orderly g.uncut).holds up)))
 
 -- no other call has the answer's xid
 no_up : (book : Book) (k : Core) (qs : List Queue) (n : ℕ) (x : Session) (q : Queue) (t : Told) (ts : List Told) (j : Job) (g : Here book k qs n x q t ts j) (i : ℕ) (a : Ask) → slice_get q.ups i ≡ Some a → a.xid ≡ t.xid → ⊥

@@ -17,7 +17,7 @@ use Rattle.kept_promise.proofs.History.{onward, grows_same}
 use Rattle.kept_promise.proofs.Later.{pending_later}
 use Rattle.kept_promise.proofs.Fits.{FitLaws}
 use Rattle.kept_promise.proofs.Shelf.{IsShelf, shelf_out, one_out, other_out}
-use Rattle.kept_promise.proofs.Orderly.{locals_of, Wanted, HeldIn, Held}
+use Rattle.kept_promise.proofs.Orderly.{locals_of, Wanted, HeldIn, HoldsTemp}
 use Rattle.kept_promise.proofs.Ordered.{SameFound, held_told}
 use Rattle.kept_promise.proofs.Chunks.{pieces_are_whole}
 use Rattle.kept_promise.proofs.Statements.{PiecesOf}
@@ -50,7 +50,7 @@ tails e = cc
 -- with the temporary file gone, or with all as they were
 refused_with : FitLaws → (book : Book) (k : Core) (qs : List Queue) (n now : ℕ) (x : Session) (q : Queue) (lbfs xid m f size : ℕ) (us : List Ask) (s : Status) (temps : List (ℕ × Temp)) → (g : Given book k qs n now x q (record { lbfs = lbfs; xid = xid; call = Commit m f size }) us) → ((i : ℕ) (e : ℕ × Temp) → slice_get temps i ≡ Some e → (j : ℕ) × (slice_get k.server.temps j ≡ Some e))
     → IsShelf temps → ((o : ℕ) → (o ≡ n → ⊥) → SameFound k.server.temps temps o) → (x.cut ≡ false → Wanted (onward book 1 book.ops) (job (session_in book k qs n now x q (record { lbfs = lbfs; xid = xid; call = Commit m f size }) us g).seat) xid (Changed (Failed s tt)))
-    → (x.cut ≡ false → Held temps n us q.downs (locals_of (session_in book k qs n now x q (record { lbfs = lbfs; xid = xid; call = Commit m f size }) us g).seat.client) (job (session_in book k qs n now x q (record { lbfs = lbfs; xid = xid; call = Commit m f size }) us g).seat))
+    → (x.cut ≡ false → HoldsTemp temps n us q.downs (locals_of (session_in book k qs n now x q (record { lbfs = lbfs; xid = xid; call = Commit m f size }) us g).seat.client) (job (session_in book k qs n now x q (record { lbfs = lbfs; xid = xid; call = Commit m f size }) us g).seat))
     → Leads book (rest_of qs n q us) (answered k n (later k.server.leasing now) x (record { lbfs = lbfs; xid = xid; call = Commit m f size }) temps k.server.index (Changed (Failed s tt)))
 refused_with laws book k qs n now x q lbfs xid m f size us s temps g were shelf found wanted held =
     let a : Ask = record { lbfs = lbfs; xid = xid; call = Commit m f size } in
@@ -66,7 +66,7 @@ refused_with laws book k qs n now x q lbfs xid m f size us s temps g were shelf 
       shelf = shelf;
       found = found;
       wanted = wanted;
-      held = λ uncut vs e. held_told temps n vs q.downs (record { xid = xid; reply = Changed (Failed s tt) }) x.cut (locals_of h.seat.client) (job h.seat) tt (subst (λ (l : List Ask). Held temps n l q.downs (locals_of h.seat.client) (job h.seat)) (tails (sym g.first ∙ e)) (held uncut));
+      held = λ uncut vs e. held_told temps n vs q.downs (record { xid = xid; reply = Changed (Failed s tt) }) x.cut (locals_of h.seat.client) (job h.seat) tt (subst (λ (l : List Ask). HoldsTemp temps n l q.downs (locals_of h.seat.client) (job h.seat)) (tails (sym g.first ∙ e)) (held uncut));
     })
 
 -- ---- its change waits
@@ -88,7 +88,7 @@ leads_waits : (book : Book) (k : Core) (qs : List Queue) (n now : ℕ) (x : Sess
     → ((i : ℕ) (e : ℕ × Temp) → slice_get temps i ≡ Some e → (j : ℕ) × (slice_get k.server.temps j ≡ Some e))
     → SameBytes book ((session_in book k qs n now x q (record { lbfs = lbfs; xid = xid; call = Commit m f size }) us g).contents m) content
     → Roomy k.server content → WasThere book f → IsShelf temps → ((o : ℕ) → (o ≡ n → ⊥) → SameFound k.server.temps temps o)
-    → (x.cut ≡ false → Held temps n us q.downs (locals_of (session_in book k qs n now x q (record { lbfs = lbfs; xid = xid; call = Commit m f size }) us g).seat.client) (job (session_in book k qs n now x q (record { lbfs = lbfs; xid = xid; call = Commit m f size }) us g).seat))
+    → (x.cut ≡ false → HoldsTemp temps n us q.downs (locals_of (session_in book k qs n now x q (record { lbfs = lbfs; xid = xid; call = Commit m f size }) us g).seat.client) (job (session_in book k qs n now x q (record { lbfs = lbfs; xid = xid; call = Commit m f size }) us g).seat))
     → Leads book (rest_of qs n q us) (served k n x xid (comes (record (at k.server now) { temps = temps }) (change_of n xid f (what.Content content))))
 leads_waits book k qs n now x q lbfs xid m f size us temps content g were same room known shelf found held =
     let h = session_in book k qs n now x q (record { lbfs = lbfs; xid = xid; call = Commit m f size }) us g in
@@ -133,7 +133,7 @@ pub record IsReady (book : Book) (k : Core) (qs : List Queue) (n now : ℕ) (x :
   pub target : IsStill k.server f ⊎ IsNone book k.server f
   pub small : nat_lt size_most size ≡ false
   pub alone : has_waiting k.server.waiting n ≡ false
-  pub left : Held (without_temp k.server.temps n m) n us q.downs (locals_of (session_in book k qs n now x q (record { lbfs = lbfs; xid = xid; call = Commit m f size }) us g).seat.client) (job (session_in book k qs n now x q (record { lbfs = lbfs; xid = xid; call = Commit m f size }) us g).seat)
+  pub left : HoldsTemp (without_temp k.server.temps n m) n us q.downs (locals_of (session_in book k qs n now x q (record { lbfs = lbfs; xid = xid; call = Commit m f size }) us g).seat.client) (job (session_in book k qs n now x q (record { lbfs = lbfs; xid = xid; call = Commit m f size }) us g).seat)
 
 none_waits : (n : ℕ) (ws : List FileChange) → length (own n ws) ≡ 0 → has_waiting ws n ≡ false
 none_waits n [] e = refl
@@ -149,7 +149,7 @@ is_ready book k qs n now x q lbfs xid m f size us g uncut =
     let h = session_in book k qs n now x q a us g in
     let p = place_at book k qs n now x q a us g uncut in
     let v = locals_of h.seat.client p.0.file in
-    let held = subst (HeldIn k.server.temps n (a ∷ us) q.downs v) p.2 (subst (Held k.server.temps n (a ∷ us) q.downs (locals_of h.seat.client)) p.1 (held_at book k qs n now x q a us g uncut)) in
+    let held = subst (HeldIn k.server.temps n (a ∷ us) q.downs v) p.2 (subst (HoldsTemp k.server.temps n (a ∷ us) q.downs (locals_of h.seat.client)) p.1 (held_at book k qs n now x q a us g uncut)) in
     let t = held.0 (0, m, f, size, lbfs, refl) in
     let sized_is : size ≡ length (h.contents m) = (subst (AllAsks (IsCommit book x.closing x.cut (job h.seat) h.contents)) g.first h.commits).0.1 in
     let short = h.lengths m in
@@ -168,7 +168,7 @@ is_ready book k qs n now x q lbfs xid m f size us g uncut =
       target = there;
       small = (let le : size ≤ 67108864 = omega (arith, sized_is, short) in grind (arith, nat_tests, le));
       alone = none_waits n k.server.waiting (omega (arith, single, first));
-      left = subst (Held (without_temp k.server.temps n m) n us q.downs (locals_of h.seat.client)) (sym p.1) (subst (HeldIn (without_temp k.server.temps n m) n us q.downs v) (sym p.2) (λ u. absurd (rest_above book k qs n now x q a us g uncut u.0 (record { lbfs = u.4; xid = xid; call = Commit u.1 u.2 u.3 }) u.5 refl), λ u. one_out k.server.temps n m t.0 g.kept.shelf t.1));
+      left = subst (HoldsTemp (without_temp k.server.temps n m) n us q.downs (locals_of h.seat.client)) (sym p.1) (subst (HeldIn (without_temp k.server.temps n m) n us q.downs v) (sym p.2) (λ u. absurd (rest_above book k qs n now x q a us g uncut u.0 (record { lbfs = u.4; xid = xid; call = Commit u.1 u.2 u.3 }) u.5 refl), λ u. one_out k.server.temps n m t.0 g.kept.shelf t.1));
     }
 
 -- it is refused for want of room

@@ -24,7 +24,7 @@ use Rattle.kept_promise.proofs.Growth.{bytes_or, or_map}
 use Rattle.kept_promise.proofs.Fits.{FitLaws}
 use Rattle.kept_promise.proofs.Shelf.{OneTemp, one_put}
 use Rattle.kept_promise.proofs.Shelves.{of_lookup, parts_put}
-use Rattle.kept_promise.proofs.Orderly.{locals_of, IsStore, known_reply, DownKnown, HeldIn, Held}
+use Rattle.kept_promise.proofs.Orderly.{locals_of, IsStore, known_reply, DownKnown, HeldIn, HoldsTemp}
 use Rattle.kept_promise.proofs.Chunks.{bytes_count}
 use Rattle.kept_promise.proofs.OrderSteps.{keys_once}
 use Rattle.kept_promise.proofs.Stored.{in_store}
@@ -93,7 +93,7 @@ pub record IsInOrder (book : Book) (k : Core) (qs : List Queue) (n now : ℕ) (x
   pub temp : Temp
   pub found : temp_at k.server.temps n m ≡ Some temp
   pub free : cond_fault (name_piece lbfs m d) (Some temp) ≡ None
-  pub filled : (bytes : List ℕ) → length bytes ≡ d.len → Held (with_temp k.server.temps (with_piece temp d.start bytes)) n us (q.downs ++ record { xid = xid; reply = known_reply } ∷ []) (locals_of (session_in book k qs n now x q (record { lbfs = lbfs; xid = xid; call = Name m d }) us g).seat.client) (job (session_in book k qs n now x q (record { lbfs = lbfs; xid = xid; call = Name m d }) us g).seat)
+  pub filled : (bytes : List ℕ) → length bytes ≡ d.len → HoldsTemp (with_temp k.server.temps (with_piece temp d.start bytes)) n us (q.downs ++ record { xid = xid; reply = known_reply } ∷ []) (locals_of (session_in book k qs n now x q (record { lbfs = lbfs; xid = xid; call = Name m d }) us g).seat.client) (job (session_in book k qs n now x q (record { lbfs = lbfs; xid = xid; call = Name m d }) us g).seat)
 
 in_order : (book : Book) (k : Core) (qs : List Queue) (n now : ℕ) (x : Session) (q : Queue) (lbfs xid m : ℕ) (d : Chunk) (us : List Ask) → (g : Given book k qs n now x q (record { lbfs = lbfs; xid = xid; call = Name m d }) us) → x.cut ≡ false → IsInOrder book k qs n now x q lbfs xid m d us g
 in_order book k qs n now x q lbfs xid m d us g uncut =
@@ -102,7 +102,7 @@ in_order book k qs n now x q lbfs xid m d us g uncut =
     let p = place_at book k qs n now x q a us g uncut in
     let s = p.0 in
     let v = locals_of h.seat.client s.of.file in
-    let held = subst (HeldIn k.server.temps n (a ∷ us) q.downs v) s.at (subst (Held k.server.temps n (a ∷ us) q.downs (locals_of h.seat.client)) s.is (held_at book k qs n now x q a us g uncut)) in
+    let held = subst (HeldIn k.server.temps n (a ∷ us) q.downs v) s.at (subst (HoldsTemp k.server.temps n (a ∷ us) q.downs (locals_of h.seat.client)) s.is (held_at book k qs n now x q a us g uncut)) in
     let is = in_store book k.seats k.server n x q h uncut xid way.Named s in
     let chunk = ap (λ (l : List Chunk). slice_get l s.call.index) (sym is.chunks) ∙ p.2 in
     let t : Temp = held.0 in
@@ -118,7 +118,7 @@ in_order book k qs n now x q lbfs xid m d us g uncut =
       filled = λ bytes count.
           let w : Temp = with_piece t d.start bytes in
           let fills = holds_known v lbfs xid m bytes us q.downs s.store t.pieces is.place s.call d is.short is.there is.same is.inside s.way chunk is.unique count (λ u. rest_above book k qs n now x q a us g uncut u.0 (record { lbfs = u.4; xid = xid; call = Send u.1 u.2 u.3 }) u.5 refl) unknown held.2 in
-          subst (Held (with_temp k.server.temps w) n us ts (locals_of h.seat.client)) (sym s.is) (subst (HeldIn (with_temp k.server.temps w) n us ts v) (sym s.at) (w, one_put k.server.temps n s.store.temp w one.0 one.1 one.2 one.4, fills));
+          subst (HoldsTemp (with_temp k.server.temps w) n us ts (locals_of h.seat.client)) (sym s.is) (subst (HeldIn (with_temp k.server.temps w) n us ts v) (sym s.at) (w, one_put k.server.temps n s.store.temp w one.0 one.1 one.2 one.4, fills));
     }
 
 -- ---- a name is taken
@@ -185,13 +185,13 @@ serve_name laws book k qs n now x q lbfs xid m d us g = by (temp_at k.server.tem
         tails : {b c : Ask} {us vs : List Ask} → b ∷ us ≡ c ∷ vs → us ≡ vs
         tails e = cc
 
-        after : x.cut ≡ false → (vs : List Ask) → q.ups ≡ a ∷ vs → length bytes ≡ d.len → Held (with_temp k.server.temps (with_piece t d.start bytes)) n vs (downs_then x q a (Named (Done tt))) (locals_of h.seat.client) (job h.seat)
+        after : x.cut ≡ false → (vs : List Ask) → q.ups ≡ a ∷ vs → length bytes ≡ d.len → HoldsTemp (with_temp k.server.temps (with_piece t d.start bytes)) n vs (downs_then x q a (Named (Done tt))) (locals_of h.seat.client) (job h.seat)
         after uncut vs e count =
             let o = order uncut in
             let ts : List Told = q.downs ++ record { xid = xid; reply = known_reply } ∷ [] in
             let same : us ≡ vs = tails (sym g.first ∙ e) in
-            let filled = subst (λ (z : Temp). Held (with_temp k.server.temps (with_piece z d.start bytes)) n us ts (locals_of h.seat.client) (job h.seat)) (some_is o.temp t (sym o.found ∙ found)) (o.filled bytes count) in
-            subst (λ (b : Bool). Held (with_temp k.server.temps (with_piece t d.start bytes)) n vs (unless b q.downs (record { xid = xid; reply = known_reply } ∷ [])) (locals_of h.seat.client) (job h.seat)) (sym uncut) (subst (λ (l : List Ask). Held (with_temp k.server.temps (with_piece t d.start bytes)) n l ts (locals_of h.seat.client) (job h.seat)) same filled)
+            let filled = subst (λ (z : Temp). HoldsTemp (with_temp k.server.temps (with_piece z d.start bytes)) n us ts (locals_of h.seat.client) (job h.seat)) (some_is o.temp t (sym o.found ∙ found)) (o.filled bytes count) in
+            subst (λ (b : Bool). HoldsTemp (with_temp k.server.temps (with_piece t d.start bytes)) n vs (unless b q.downs (record { xid = xid; reply = known_reply } ∷ [])) (locals_of h.seat.client) (job h.seat)) (sym uncut) (subst (λ (l : List Ask). HoldsTemp (with_temp k.server.temps (with_piece t d.start bytes)) n l ts (locals_of h.seat.client) (job h.seat)) same filled)
 
     piece_by : (t : Temp) (b : Option (List ℕ)) → temp_at k.server.temps n m ≡ Some t → cond_fault c (temp_at k.server.temps n m) ≡ None → known ≡ b → Leads book (rest_of qs n q us) (served k n x xid (names_bytes (looked_up (at k.server now) c) n xid c (Some t) b))
     piece_by t None found none is = unknown

@@ -7,7 +7,7 @@ use Rattle.kept_promise.proofs.Lists.{some_is, nothing_there, all_at, all_in}
 use Rattle.kept_promise.proofs.Keys.{times, times_append, key, own, on_way, ask_key, told_key, change_key, pending_key, found_by, there_by, key_xid, wanted_program}
 use Rattle.kept_promise.proofs.Messages.{Job, job, stage_word, AllAsks, AllTolds}
 use Rattle.kept_promise.proofs.Growth.{Grows, there_later}
-use Rattle.kept_promise.proofs.Orderly.{locals_of, InPlace, IsInPlace, Wanted, IsWanted, DownKnown, Holds, HeldIn, Held, Orderly, DownRefused}
+use Rattle.kept_promise.proofs.Orderly.{locals_of, InPlace, IsInPlace, Wanted, IsWanted, DownKnown, Holds, HeldIn, HoldsTemp, Orderly, DownRefused}
 use Rattle.kept_promise.proofs.Ordered.{IsFetching, IsFetched, AllFetching, AllFetched, fetching_place, fetched_wanted, CloseFree, free_held, held_free, all_wanted_later}
 use Rattle.kept_promise.proofs.Facts.{IsBalanced}
 use Rattle.kept_promise.proofs.Rights.{open_not_close}
@@ -218,7 +218,7 @@ refused_else t ts y apart (suc i, s, u, e) = (i, s, u, e)
 abbrev pub IsElse : Option Job → (xid : ℕ) → Type 0
 IsElse job x = ((j : Job) (st : Upload) (k : ℕ) (u : UploadCall) → job ≡ Some j → j.stage ≡ stage.Storing st → slice_get st.under k ≡ Some u → u.xid ≡ x → ⊥) × ((j : Job) (y m : ℕ) → job ≡ Some j → j.stage ≡ stage.Making y m → y ≡ x → ⊥)
 
-held_dropped : (temps : List (ℕ × Temp)) (n : ℕ) (us : List Ask) (t : Told) (ts : List Told) (v : ℕ → List ℕ) (job : Option Job) → IsElse job t.xid → Held temps n us (t ∷ ts) v job → Held temps n us ts v job
+held_dropped : (temps : List (ℕ × Temp)) (n : ℕ) (us : List Ask) (t : Told) (ts : List Told) (v : ℕ → List ℕ) (job : Option Job) → IsElse job t.xid → HoldsTemp temps n us (t ∷ ts) v job → HoldsTemp temps n us ts v job
 held_dropped temps n us t ts v None none h = h
 held_dropped temps n us t ts v (Some j) none h = by j.stage refl h
   where
@@ -232,7 +232,7 @@ pub orderly_dropped : (book more : Book) (made ended : Option ℕ) (n : ℕ) (te
 orderly_dropped book more made ended n temps hung q t ts seat g first none h = record {
   asks = subst (AllAsks (IsInPlace (job seat) (locals_of seat.client))) (sym (ups_same hung q.ups)) h.asks;
   tolds = (subst (AllTolds (IsWanted more (job seat))) first (all_wanted_later book more made ended (job seat) q.downs g h.tolds)).1;
-  holds = λ up. subst (λ (l : List Ask). Held temps n l ts (locals_of seat.client) (job seat)) (sym (ups_same hung q.ups)) (held_dropped temps n q.ups t ts (locals_of seat.client) (job seat) none (subst (λ (l : List Told). Held temps n q.ups l (locals_of seat.client) (job seat)) first (h.holds up)));
+  holds = λ up. subst (λ (l : List Ask). HoldsTemp temps n l ts (locals_of seat.client) (job seat)) (sym (ups_same hung q.ups)) (held_dropped temps n q.ups t ts (locals_of seat.client) (job seat) none (subst (λ (l : List Told). HoldsTemp temps n q.ups l (locals_of seat.client) (job seat)) first (h.holds up)));
   tree = λ j e w. there_later book more made ended j.file g (h.tree j e w);
 }
 
@@ -267,9 +267,9 @@ pub orderly_ends : (book more : Book) (n : ℕ) (temps : List (ℕ × Temp)) (w 
     → Orderly more n temps hung (record { ups = unless hung q.ups asks; downs = ts }) d
 orderly_ends book more n temps w q hung next calls t ts seat d j asks b first is over h free fetch =
     let o = others_fetch book n temps w q hung next calls t ts seat j b first is (ends_wait j t over) h in
-    clear_orderly more n temps hung q.ups asks ts d free o.0 o.1 (λ up. none over (subst (Held temps n q.ups q.downs (locals_of seat.client)) is (h.holds up))) fetch
+    clear_orderly more n temps hung q.ups asks ts d free o.0 o.1 (λ up. none over (subst (HoldsTemp temps n q.ups q.downs (locals_of seat.client)) is (h.holds up))) fetch
   where
-    none : EndsAt j t → Held temps n q.ups q.downs (locals_of seat.client) (Some j) → Rattle.kept_promise.proofs.Shelf.NoTemp temps n
+    none : EndsAt j t → HoldsTemp temps n q.ups q.downs (locals_of seat.client) (Some j) → Rattle.kept_promise.proofs.Shelf.NoTemp temps n
     none (inl e) held = free_held temps n q.ups q.downs (locals_of seat.client) (Some j) (open_free j e) held
     none (inr (inr e)) held = (subst (HeldIn temps n q.ups q.downs (locals_of seat.client j.file)) e.3 held).2 (0, e.1, e.2, ap (λ (l : List Told). slice_get l 0) first ∙ ap (λ (r : Reply). Some (record { xid = t.xid; reply = r })) e.4)
     none (inr (inl e)) held = (subst (HeldIn temps n q.ups q.downs (locals_of seat.client j.file)) e held).1 (λ u. up_apart n w q hung next calls t ts u.0 (record { lbfs = u.4; xid = t.xid; call = Commit u.1 u.2 u.3 }) b first u.5 refl)

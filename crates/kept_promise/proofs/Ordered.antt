@@ -8,7 +8,7 @@ use Rattle.kept_promise.proofs.Lists.{some_is, nothing_there, at_end, of_appende
 use Rattle.kept_promise.proofs.Messages.{Job, job, stage_word, AllAsks, AllTolds}
 use Rattle.kept_promise.proofs.Growth.{Grows, there_later, value_later, Follows}
 use Rattle.kept_promise.proofs.Shelf.{NoTemp, OneTemp}
-use Rattle.kept_promise.proofs.Orderly.{locals_of, InPlace, IsInPlace, NoRoom, Wanted, IsWanted, UpMake, UpSend, UpCommit, known_reply, DownKnown, Holds, HeldIn, Held, Orderly, Went, Denied, DownRefused}
+use Rattle.kept_promise.proofs.Orderly.{locals_of, InPlace, IsInPlace, NoRoom, Wanted, IsWanted, UpMake, UpSend, UpCommit, known_reply, DownKnown, Holds, HeldIn, HoldsTemp, Orderly, Went, Denied, DownRefused}
 use Rattle.kept_promise.proofs.Rights.{WasThere}
 
 -- ---- calls and answers of opens
@@ -87,7 +87,7 @@ pub none_free : (job : Option Job) → job ≡ None → CloseFree job
 none_free job e j f w = nothing_there j (sym e ∙ f)
 
 -- where no close is under way there is no temporary file
-pub free_held : (temps : List (ℕ × Temp)) (n : ℕ) (us : List Ask) (ts : List Told) (v : ℕ → List ℕ) (job : Option Job) → CloseFree job → Held temps n us ts v job → NoTemp temps n
+pub free_held : (temps : List (ℕ × Temp)) (n : ℕ) (us : List Ask) (ts : List Told) (v : ℕ → List ℕ) (job : Option Job) → CloseFree job → HoldsTemp temps n us ts v job → NoTemp temps n
 free_held temps n us ts v None free h = h
 free_held temps n us ts v (Some j) free h = by j.stage (free j refl) h
   where
@@ -97,7 +97,7 @@ free_held temps n us ts v (Some j) free h = by j.stage (free j refl) h
     by (stage.Committing x) free h = absurd (free refl)
     by _ free h = h
 
-pub held_free : (temps : List (ℕ × Temp)) (n : ℕ) (us : List Ask) (ts : List Told) (v : ℕ → List ℕ) (job : Option Job) → CloseFree job → NoTemp temps n → Held temps n us ts v job
+pub held_free : (temps : List (ℕ × Temp)) (n : ℕ) (us : List Ask) (ts : List Told) (v : ℕ → List ℕ) (job : Option Job) → CloseFree job → NoTemp temps n → HoldsTemp temps n us ts v job
 held_free temps n us ts v None free h = h
 held_free temps n us ts v (Some j) free h = by j.stage (free j refl)
   where
@@ -164,7 +164,7 @@ none_found temps after n same h m lt = same m lt ∙ h m lt
 one_found : (temps after : List (ℕ × Temp)) (n m : ℕ) (t : Temp) → SameFound temps after n → OneTemp temps n m t → OneTemp after n m t
 one_found temps after n m t same h = (h.0, h.1, h.2, same m h.0 ∙ h.3, λ p lt apart. same p lt ∙ h.4 p lt apart)
 
-pub held_found : (temps after : List (ℕ × Temp)) (n : ℕ) (us : List Ask) (ts : List Told) (v : ℕ → List ℕ) (job : Option Job) → SameFound temps after n → Held temps n us ts v job → Held after n us ts v job
+pub held_found : (temps after : List (ℕ × Temp)) (n : ℕ) (us : List Ask) (ts : List Told) (v : ℕ → List ℕ) (job : Option Job) → SameFound temps after n → HoldsTemp temps n us ts v job → HoldsTemp after n us ts v job
 held_found temps after n us ts v None same h = none_found temps after n same h
 held_found temps after n us ts v (Some j) same h = by j.stage h
   where
@@ -249,7 +249,7 @@ holds_told v us ts st ps t none h = record {
   apart = h.apart;
 }
 
-pub held_told : (temps : List (ℕ × Temp)) (n : ℕ) (us : List Ask) (ts : List Told) (t : Told) (cut : Bool) (v : ℕ → List ℕ) (job : Option Job) → TellsNone t.reply → Held temps n us ts v job → Held temps n us (unless cut ts (t ∷ [])) v job
+pub held_told : (temps : List (ℕ × Temp)) (n : ℕ) (us : List Ask) (ts : List Told) (t : Told) (cut : Bool) (v : ℕ → List ℕ) (job : Option Job) → TellsNone t.reply → HoldsTemp temps n us ts v job → HoldsTemp temps n us (unless cut ts (t ∷ [])) v job
 held_told temps n us ts t true v job none h = h
 held_told temps n us ts t false v None none h = h
 held_told temps n us ts t false v (Some j) none h = by j.stage h
@@ -306,7 +306,7 @@ holds_rest v a us ts st ps plain h = record {
   apart = h.apart;
 }
 
-pub held_rest : (temps : List (ℕ × Temp)) (n : ℕ) (a : Ask) (us : List Ask) (ts : List Told) (v : ℕ → List ℕ) (job : Option Job) → IsQuietCall a.call → Held temps n (a ∷ us) ts v job → Held temps n us ts v job
+pub held_rest : (temps : List (ℕ × Temp)) (n : ℕ) (a : Ask) (us : List Ask) (ts : List Told) (v : ℕ → List ℕ) (job : Option Job) → IsQuietCall a.call → HoldsTemp temps n (a ∷ us) ts v job → HoldsTemp temps n us ts v job
 held_rest temps n a us ts v None plain h = h
 held_rest temps n a us ts v (Some j) plain h = by j.stage h
   where
@@ -317,7 +317,7 @@ held_rest temps n a us ts v (Some j) plain h = by j.stage h
     by _ h = h
 
 -- with an answer to it
-pub orderly_answered : (book more : Book) (made ended : Option ℕ) (n : ℕ) (temps after : List (ℕ × Temp)) (cut : Bool) (q : Queue) (a : Ask) (us : List Ask) (t : Told) (seat : Seat) → Grows book more made ended → q.ups ≡ a ∷ us → IsWanted more (job seat) t → Held after n us (unless cut q.downs (t ∷ [])) (locals_of seat.client) (job seat) → Orderly book n temps false q seat
+pub orderly_answered : (book more : Book) (made ended : Option ℕ) (n : ℕ) (temps after : List (ℕ × Temp)) (cut : Bool) (q : Queue) (a : Ask) (us : List Ask) (t : Told) (seat : Seat) → Grows book more made ended → q.ups ≡ a ∷ us → IsWanted more (job seat) t → HoldsTemp after n us (unless cut q.downs (t ∷ [])) (locals_of seat.client) (job seat) → Orderly book n temps false q seat
     → Orderly more n after false (record { ups = us; downs = unless cut q.downs (t ∷ []) }) seat
 orderly_answered book more made ended n temps after cut q a us t seat g first w held h = record {
   asks = (subst (AllAsks (IsInPlace (job seat) (locals_of seat.client))) first h.asks).1;
@@ -327,7 +327,7 @@ orderly_answered book more made ended n temps after cut q a us t seat g first w 
 }
 
 -- with none
-pub orderly_taken : (book more : Book) (made ended : Option ℕ) (n : ℕ) (temps after : List (ℕ × Temp)) (hung : Bool) (q : Queue) (a : Ask) (us : List Ask) (seat : Seat) → Grows book more made ended → q.ups ≡ a ∷ us → Held after n us q.downs (locals_of seat.client) (job seat) → Orderly book n temps hung q seat → Orderly more n after hung (record q { ups = us }) seat
+pub orderly_taken : (book more : Book) (made ended : Option ℕ) (n : ℕ) (temps after : List (ℕ × Temp)) (hung : Bool) (q : Queue) (a : Ask) (us : List Ask) (seat : Seat) → Grows book more made ended → q.ups ≡ a ∷ us → HoldsTemp after n us q.downs (locals_of seat.client) (job seat) → Orderly book n temps hung q seat → Orderly more n after hung (record q { ups = us }) seat
 orderly_taken book more made ended n temps after hung q a us seat g first held h = record {
   asks = (subst (AllAsks (IsInPlace (job seat) (locals_of seat.client))) first h.asks).1;
   tolds = all_wanted_later book more made ended (job seat) q.downs g h.tolds;
@@ -335,8 +335,8 @@ orderly_taken book more made ended n temps after hung q a us seat g first held h
   tree = tree_later book more made ended seat g h.tree;
 }
 
-pub held_first : (book : Book) (n : ℕ) (temps : List (ℕ × Temp)) (q : Queue) (a : Ask) (us : List Ask) (seat : Seat) → q.ups ≡ a ∷ us → Orderly book n temps false q seat → Held temps n (a ∷ us) q.downs (locals_of seat.client) (job seat)
-held_first book n temps q a us seat first h = subst (λ (l : List Ask). Held temps n l q.downs (locals_of seat.client) (job seat)) first (h.holds refl)
+pub held_first : (book : Book) (n : ℕ) (temps : List (ℕ × Temp)) (q : Queue) (a : Ask) (us : List Ask) (seat : Seat) → q.ups ≡ a ∷ us → Orderly book n temps false q seat → HoldsTemp temps n (a ∷ us) q.downs (locals_of seat.client) (job seat)
+held_first book n temps q a us seat first h = subst (λ (l : List Ask). HoldsTemp temps n l q.downs (locals_of seat.client) (job seat)) first (h.holds refl)
 
 pub place_first : (book : Book) (n : ℕ) (temps : List (ℕ × Temp)) (hung : Bool) (q : Queue) (a : Ask) (us : List Ask) (seat : Seat) → q.ups ≡ a ∷ us → Orderly book n temps hung q seat → InPlace (job seat) (locals_of seat.client) a.xid a.call
 place_first book n temps hung q a us seat first h = (subst (AllAsks (IsInPlace (job seat) (locals_of seat.client))) first h.asks).0
@@ -370,7 +370,7 @@ pub orderly_begun : (book : Book) (n : ℕ) (temps : List (ℕ × Temp)) (hung :
 orderly_begun book n temps hung q a d j is place begins tree clear = record {
   asks = all_unless (IsInPlace (job d) (locals_of d.client)) hung q.ups (a ∷ []) (fetching_place (job d) (locals_of d.client) q.ups clear.ups) (place, tt);
   tolds = fetched_wanted book (job d) q.downs clear.downs;
-  holds = λ up. subst (λ (o : Option Job). Held temps n (unless hung q.ups (a ∷ [])) q.downs (locals_of d.client) o) (sym is) (by j.stage begins hung up (clear.none up));
+  holds = λ up. subst (λ (o : Option Job). HoldsTemp temps n (unless hung q.ups (a ∷ [])) q.downs (locals_of d.client) o) (sym is) (by j.stage begins hung up (clear.none up));
   tree = λ i e w. let same = some_is j i (sym is ∙ e) in subst (λ (z : Job). WasThere book z.file) same (tree (ap (λ (z : Job). stage_word z.stage) same ∙ w));
 }
   where

@@ -134,15 +134,15 @@ HeldIn temps n us ts v (stage.Storing st) = (t : Temp) × OneTemp temps n st.tem
 HeldIn temps n us ts v (stage.Committing x) = ((u : UpCommit us x) → (t : Temp) × OneTemp temps n u.1 t × SameShape t.pieces (PiecesOf v (λ c. true) (chunks_of v))) × ((UpCommit us x → ⊥) → NoTemp temps n)
 HeldIn temps n us ts v s = NoTemp temps n
 
-abbrev pub Held : List (ℕ × Temp) → (n : ℕ) → List Ask → List Told → (ℕ → List ℕ) → Option Job → Type 0
-Held temps n us ts v None = NoTemp temps n
-Held temps n us ts v (Some j) = HeldIn temps n us ts (v j.file) j.stage
+abbrev pub HoldsTemp : List (ℕ × Temp) → (n : ℕ) → List Ask → List Told → (ℕ → List ℕ) → Option Job → Type 0
+HoldsTemp temps n us ts v None = NoTemp temps n
+HoldsTemp temps n us ts v (Some j) = HeldIn temps n us ts (v j.file) j.stage
 
 -- ---- all of it
 
 pub record Orderly (book : Book) (n : ℕ) (temps : List (ℕ × Temp)) (hung : Bool) (q : Queue) (seat : Seat) : Type 0 where
   pub asks : AllAsks (IsInPlace (job seat) (locals_of seat.client)) q.ups
   pub tolds : AllTolds (IsWanted book (job seat)) q.downs
-  pub holds : hung ≡ false → Held temps n q.ups q.downs (locals_of seat.client) (job seat)
+  pub holds : hung ≡ false → HoldsTemp temps n q.ups q.downs (locals_of seat.client) (job seat)
   -- a close is of a file of the tree
   pub tree : (j : Job) → job seat ≡ Some j → stage_word j.stage ≡ words.Close → WasThere book j.file

@@ -16,7 +16,7 @@ use Rattle.kept_promise.proofs.Later.{speak_later, fit_later, serves_later, answ
 use Rattle.kept_promise.proofs.Taken.{zero_last, finds_more, under_more, answer_found, has_fetch_found, times_map_append}
 use Rattle.kept_promise.proofs.Turns.{Around, around_same, turned_core, kept_turn}
 use Rattle.kept_promise.proofs.Shelf.{IsShelf}
-use Rattle.kept_promise.proofs.Orderly.{locals_of, Wanted, Held, Orderly}
+use Rattle.kept_promise.proofs.Orderly.{locals_of, Wanted, HoldsTemp, Orderly}
 use Rattle.kept_promise.proofs.Ordered.{SameFound, orderly_answered}
 use Rattle.kept_promise.proofs.Facts.{IsValue, FileIs, IsLeasing, IsServer, IsTalk, IsSession, IsKept, commits_in}
 use Rattle.kept_promise.proofs.Unused.{IsUnused}
@@ -81,7 +81,7 @@ pub record Shows (book more : Book) (k : Core) (n : ℕ) (x : Session) (q : Queu
   pub closes : x.cut ≡ false → (j : Job) → job h.seat ≡ Some j → CloseOf more x.closing h.contents h.seat.client.next_temp j (client.local_bytes h.seat.client.opened j.file) j.stage
   pub pending : (i : ℕ) (c : FileChange) → slice_get (own n k.server.waiting) i ≡ Some c → WaitsFor more c.session x.closing x.cut (job h.seat) c.xid c.file c.what
   pub wanted : x.cut ≡ false → Wanted more (job h.seat) a.xid r
-  pub held : x.cut ≡ false → Held s.temps n us (unless x.cut q.downs (record { xid = a.xid; reply = r } ∷ [])) (locals_of h.seat.client) (job h.seat)
+  pub held : x.cut ≡ false → HoldsTemp s.temps n us (unless x.cut q.downs (record { xid = a.xid; reply = r } ∷ [])) (locals_of h.seat.client) (job h.seat)
   pub running : (p : ℕ) (o : Op) → slice_get more.ops p ≡ Some o → o.outcome ≡ told.Running → (e : Seat) × (j : Job) × (numbered k.seats o.client ≡ Some e) × (job e ≡ Some j) × (j.place ≡ p)
 
 -- and of the temporary files that it leaves
@@ -205,7 +205,7 @@ pub record Answers (book : Book) (k : Core) (n : ℕ) (x : Session) (q : Queue) 
   pub shelf : IsShelf temps
   pub found : (o : ℕ) → (o ≡ n → ⊥) → SameFound k.server.temps temps o
   pub wanted : x.cut ≡ false → Wanted (onward book 1 book.ops) (job h.seat) a.xid r
-  pub held : x.cut ≡ false → (us : List Ask) → q.ups ≡ a ∷ us → Held temps n us (unless x.cut q.downs (record { xid = a.xid; reply = r } ∷ [])) (locals_of h.seat.client) (job h.seat)
+  pub held : x.cut ≡ false → (us : List Ask) → q.ups ≡ a ∷ us → HoldsTemp temps n us (unless x.cut q.downs (record { xid = a.xid; reply = r } ∷ [])) (locals_of h.seat.client) (job h.seat)
   pub others : (o i m : ℕ) (e : ℕ × Temp) → (o ≡ n → ⊥) → m < 4294967296 → slice_get temps i ≡ Some e → e.0 ≡ key_of o m → (j : ℕ) × (slice_get k.server.temps j ≡ Some e)
 
 pub kept_reply : (book : Book) (k : Core) (qs : List Queue) (n : ℕ) (leasing : Leasing) (x : Session) (q : Queue) (a : Ask) (us : List Ask) (temps : List (ℕ × Temp)) (index : Indexed) (r : Reply) (sessions : List Session) (after : List Queue)

@@ -16,7 +16,7 @@ use Rattle.kept_promise.proofs.Later.{waits_later, answer_later, has_fetch_later
 use Rattle.kept_promise.proofs.Taken.{zero_last, finds_more, under_more, answer_found, has_fetch_found, times_map_append}
 use Rattle.kept_promise.proofs.Turns.{Around, around_same, around_with, turned_core, kept_turn}
 use Rattle.kept_promise.proofs.Shelf.{IsShelf}
-use Rattle.kept_promise.proofs.Orderly.{locals_of, Held}
+use Rattle.kept_promise.proofs.Orderly.{locals_of, HoldsTemp}
 use Rattle.kept_promise.proofs.Ordered.{SameFound, orderly_taken}
 use Rattle.kept_promise.proofs.Statements.{CallFits}
 use Rattle.kept_promise.proofs.Facts.{IsLeasing, IsWanted, change_number, IsSession, IsKept, commits_in}
@@ -78,7 +78,7 @@ pub record ComesToWait (book : Book) (k : Core) (n : ℕ) (x : Session) (q : Que
   pub known : WasThere book d.file
   pub shelf : IsShelf temps
   pub found : (o : ℕ) → (o ≡ n → ⊥) → SameFound k.server.temps temps o
-  pub held : x.cut ≡ false → Held temps n us q.downs (locals_of h.seat.client) (job h.seat)
+  pub held : x.cut ≡ false → HoldsTemp temps n us q.downs (locals_of h.seat.client) (job h.seat)
   pub waits : WaitsFor (onward book 1 book.ops) d.session x.closing x.cut (job h.seat) d.xid d.file d.what
 
 kept_coming : (book : Book) (k : Core) (qs : List Queue) (n now : ℕ) (leasing : Leasing) (x : Session) (q : Queue) (a : Ask) (us : List Ask) (temps : List (ℕ × Temp)) (d : FileChange) (sessions : List Session) (after : List Queue) → (g : Given book k qs n now x q a us) → IsLeasing leasing → ComesToWait book k n x q a us temps d (session_in book k qs n now x q a us g)
