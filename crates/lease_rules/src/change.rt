@@ -3,7 +3,6 @@
 
 ghost use Rattle.std.specs.Prelude.{◌≡◌};
 ghost use Rattle.lease_rules.specs.Changes.{asker_of, asker, is_about, meets, waits_behind};
-ghost use Rattle.lease_rules.specs.declared.change.AskError.TheVariants as errors;
 
 use std::alloc::AllocError;
 
@@ -80,23 +79,6 @@ pub struct Recall {
     pub session: u32,
     /// The id of the file.
     pub file: u64,
-}
-
-/// Why a change may not wait.
-#[derive(Clone, Copy)]
-pub enum AskError {
-    /// A change of the session waits already.
-    Jukebox,
-    /// Memory ran out.
-    Memory,
-}
-
-impl From<AllocError> for AskError {
-    ghost from_gives = { λ _ e. e ≡ errors.Memory };
-
-    fn from(_e: AllocError) -> AskError {
-        AskError::Memory
-    }
 }
 
 /// Whether a change waits behind one that came earlier.
