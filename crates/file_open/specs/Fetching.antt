@@ -168,7 +168,7 @@ MayMissOpen s file (Some t) = ⊥
 abbrev pub with_index : State → Indexed → State
 with_index s index = record s { index = index }
 
--- an index in which places are wanting of those that enter: at least one was left out
+-- an index in which places are missing of those that enter: at least one was left out
 abbrev pub IsLacking : (old : Indexed) → Option Entering → (new : Indexed) → Type 0
 IsLacking old None new = ⊥
 IsLacking old (Some e) new = LeavesSome (found_all old e.looked) e.file e.chunks new

@@ -24,8 +24,8 @@ use std::sync::atomic::{AtomicBool, Ordering};
 const RETRIES: u32 = 16;
 
 /// Linux's numbers of the errors by which descriptors (of the program, of all) or memory for a connection
-/// are wanting. They pass.
-const WANTING: [i32; 4] = [23, 24, 12, 105];
+/// ran out. They pass.
+const RAN_OUT: [i32; 4] = [23, 24, 12, 105];
 
 /// A server that was dialled, for the twins of the link to it: whoever sees its connection end first
 /// tells it, unless this end has ended it.
@@ -209,10 +209,10 @@ pub(crate) fn quiet_link<R: Net<Listener = TcpListener, Stream = TcpStream> + Dr
 }
 
 /// Whether accepting may go through after a rest: it was interrupted, the peer went before it was
-/// accepted, or descriptors or memory are wanting. That is no fault of the network.
+/// accepted, or descriptors or memory ran out. That is no fault of the network.
 fn is_passing(error: &io::Error) -> bool {
     match error.raw_os_error() {
-        Some(number) if WANTING.contains(&number) => true,
+        Some(number) if RAN_OUT.contains(&number) => true,
         _ => matches!(
             error.kind(),
             ErrorKind::Interrupted | ErrorKind::ConnectionAborted

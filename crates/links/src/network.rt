@@ -12,7 +12,7 @@ use lb_base::source::Failed;
 pub enum AcceptError {
     /// The network failed; its count of faults rose.
     Failed,
-    /// None could be given just now, as where the peer went, or descriptors or memory are wanting. Another
+    /// None could be given just now, as where the peer went, or descriptors or memory ran out. Another
     /// may be asked for after a rest.
     Passing,
 }

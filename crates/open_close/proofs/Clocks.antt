@@ -47,6 +47,6 @@ missed_so s m now mid new step may is back said = ended (may_miss_at s now m may
 pub came_so : (s : State) (m : Result Message WireFault) (now : ℕ) (mid new : State) (step : ClientStep) → mid ≡ at s now → Comes mid.index (entering mid m) (hears mid m) new step → Comes s.index (entering (at s now) m) (hears (at s now) m) new step
 came_so s m now mid new step is h = subst (λ (t : State). Comes t.index (entering t m) (hears t m) new step) is h
 
--- or places are wanting in the index
+-- or places are missing in the index
 pub lacks_so : (s : State) (m : Result Message WireFault) (now : ℕ) (new : State) (step : ClientStep) → Comes s.index (entering (at s now) m) (hears (at s now) m) new step → step.missed ≡ true → Misses s m now new step
 lacks_so s m now new step h e = lacks (subst (λ (o : Option Entering). Lacks s.index o (got_step s m now) new step) (entering_at s now m) (h.lacks e))

@@ -1,4 +1,4 @@
--- A step that was to come, whether places are wanting in the index or not.
+-- A step that was to come, whether places are missing in the index or not.
 use Rattle.std.proofs.Common.{◌≡◌, sym, ap, subst, ◌∙◌, ℕ, Bool, true, false}
 use Rattle.std.specs.Prelude.{Option, Some, Result, Ok, Err, IfOk, OnErr}
 use Rattle.chunk_index.specs.Index.{Indexed}
