@@ -261,7 +261,8 @@ where
     ensures network { IsErrOf result.0 errors.Network → Rose (N.faults net) (N.faults result.4) ⊎ IsFaulty N.L.faults result.5 }
     ensures read_later { S.faults script ≤ S.faults result.1 }
     ensures write_later { K.faults sink ≤ K.faults result.2 }
-    ensures bad_line { (n : ℕ) → IsErrOf result.0 (errors.BadLine n) → IsBadLineAll (SaysAt F N.L.held N.L.faults) (is_some cache.entry) (S.left script) (S.left result.1) (K.held sink) (K.held result.2) n }
+    ensures bad_line { (n : ℕ) → IsErrOf result.0 (errors.BadLine n)
+        → IsBadLineAll (SaysAt F N.L.held N.L.faults) (is_some cache.entry) (S.left script) (S.left result.1) (K.held sink) (K.held result.2) n }
     ensures too_long { IsErrOf result.0 errors.TooLong → IsTooLong (S.left script) (S.left result.1) }
 {
     let mounted = match Mounted::new(alloc, files, drift) {

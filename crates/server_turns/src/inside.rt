@@ -237,7 +237,9 @@ pub(crate) fn got_in<H: Turns>(
     now: u64,
 ) -> Got
     requires { now < 2 ^ 63 }
-    ensures heard { IsParsed prepared.read (parse_of server_waits bytes.now) → (left : H) × H.hears held.old session bytes.now now result.heard left × TakesOut H.gives session result.answer left held.new × (H.journal held.new ≡ H.journal left) }
+    ensures heard { IsParsed prepared.read (parse_of server_waits bytes.now)
+        → (left : H) × H.hears held.old session bytes.now now result.heard left
+        × TakesOut H.gives session result.answer left held.new × (H.journal held.new ≡ H.journal left) }
     ensures grows { MayAdd (H.journal held.old) (H.journal held.new) }
 {
     let answers = prepared.answers();

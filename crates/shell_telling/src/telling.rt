@@ -1,7 +1,8 @@
 //! The lines that say how far a command is, and what it came to: `specs/Telling.antt`.
 
 ghost use Rattle.std.specs.Prelude.{◌≡◌, ◌++◌, IfOk, OnOk, codes, decimal};
-ghost use Rattle.shell_telling.specs.Telling.{count_text, big_text, middle_text, size_text, undone_text, counts_text, end_line, rate_text, left_of, left_text, files_text, line_part, pace_text, progress_line, waits_text, waiting_line, shown_line, left_out_text, stopped_line, unsure_line};
+ghost use Rattle.shell_telling.specs.Telling.{count_text, big_text, middle_text, size_text, undone_text, counts_text, end_line, rate_text, left_of, left_text, files_text, line_part};
+ghost use Rattle.shell_telling.specs.Telling.{pace_text, progress_line, waits_text, waiting_line, shown_line, left_out_text, stopped_line, unsure_line};
 ghost use Rattle.shell_telling.specs.Telling.{delete_words, again_words, sync_again, get_again, again_text};
 ghost use Rattle.shell_telling.specs.Telling.{prompt_text, number_text, line_text};
 

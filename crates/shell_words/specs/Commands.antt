@@ -68,11 +68,11 @@ most_of verb.Sync = 2
 most_of v = 1
 
 -- which one is missing, where there are so many, fewer than it has
-abbrev pub wanting : Verb → ℕ → Mistake
-wanting verb.Put n = mistake.NoLocal
-wanting verb.Sync n = if n == 0 then mistake.NoLocal else mistake.NoPath
-wanting verb.Mv n = if n == 1 then mistake.NoSecondPath else mistake.NoPath
-wanting v n = mistake.NoPath
+abbrev pub missing : Verb → ℕ → Mistake
+missing verb.Put n = mistake.NoLocal
+missing verb.Sync n = if n == 0 then mistake.NoLocal else mistake.NoPath
+missing verb.Mv n = if n == 1 then mistake.NoSecondPath else mistake.NoPath
+missing v n = mistake.NoPath
 
 -- a word that begins with - is an option, unless it is - alone; -- ends them
 abbrev pub kind_of : List ℕ → Start
@@ -104,7 +104,7 @@ is_nothing word = length word == 0
 abbrev pub counted : Verb → (has_option : Bool) → Result (List (List ℕ)) Mistake → Result Line Mistake
 counted v o (Err m) = Err m
 counted v o (Ok operands) =
-    if nat_lt (length operands) (least_of v) then Err (wanting v (length operands))
+    if nat_lt (length operands) (least_of v) then Err (missing v (length operands))
     else if nat_lt (most_of v) (length operands) then Err mistake.TooMany
     else if list_any is_nothing operands then Err mistake.NoName
     else Ok (record { verb = v; has_option = o; operands = operands })

@@ -2,7 +2,8 @@
 
 ghost use Rattle.std.specs.Prelude.{◌≡◌, ◌<◌, length};
 ghost use Rattle.std.specs.List.{list_any};
-ghost use Rattle.shell_words.specs.Commands.{is_nothing, verb_of, is_option_of, is_later_of, least_of, most_of, wanting, kind_of, start_of, operands_at, counted, line_at, line_of, some_line, first_verb};
+ghost use Rattle.shell_words.specs.Commands.{is_nothing, verb_of, is_option_of, is_later_of, least_of, most_of, missing, kind_of, start_of, operands_at, counted, line_at, line_of};
+ghost use Rattle.shell_words.specs.Commands.{some_line, first_verb};
 ghost use Rattle.shell_words.specs.Commands.{command_of};
 
 use crate::mistake::Mistake;
@@ -161,8 +162,8 @@ impl Verb {
 }
 
 /// What a command wants that has so many operands, fewer than it takes.
-fn wanting(verb: Verb, count: usize) -> Mistake
-    ensures { result ≡ wanting verb count }
+fn missing(verb: Verb, count: usize) -> Mistake
+    ensures { result ≡ missing verb count }
 {
     match verb {
         Verb::Put => Mistake::NoLocal,
@@ -243,7 +244,7 @@ fn counted(
     match operands {
         Ok(operands) => {
             if operands.len() < verb.least() {
-                Err(wanting(verb, operands.len()))
+                Err(missing(verb, operands.len()))
             } else if verb.most() < operands.len() {
                 Err(Mistake::TooMany)
             } else if has_empty(operands.as_slice()) {
