@@ -134,10 +134,11 @@ is_local c = false
 abbrev pub looks : Command
 looks = command.Named path.LookRoot
 
--- Why nothing else is asked for, by what the look came to: this connection is lost too, so no server is behind it; or what answers is none.
+-- Why nothing else is asked for, by what the look came to: this connection is lost too, so no server is behind it; or what answers is none; or memory ran out, so that none may have answered.
 abbrev pub stops : Answer → Option Why
 stops (answer.Failed why.Lost) = Some why.NoLink
 stops (answer.Failed (why.BadPeer n)) = Some (why.BadPeer n)
+stops (answer.Failed why.Memory) = Some why.Memory
 stops a = None
 
 abbrev pub AsksUnless : Option Why → State → Command → Answer → State → Type 0

@@ -107,6 +107,7 @@ pub(crate) fn stops(looked: &Answer) -> Option<Why>
     match looked {
         Answer::Failed(Why::Lost) => Some(Why::NoLink),
         Answer::Failed(Why::BadPeer(fault)) => Some(Why::BadPeer(*fault)),
+        Answer::Failed(Why::Memory) => Some(Why::Memory),
         _ => None,
     }
 }
