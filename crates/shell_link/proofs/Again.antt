@@ -5,53 +5,66 @@ use Rattle.limits.specs.declared.TheConstants.{FILE_MOST}
 use Rattle.client_state.specs.Bounding.{kept_within}
 use Rattle.client_state.specs.Ending.{joined}
 use Rattle.client_state.specs.State.{State}
+use Rattle.client_state.specs.declared.step.Ended.{Ended}
 use Rattle.shell_walks.specs.declared.remote.Answer.{Answer}
 use Rattle.shell_walks.specs.declared.remote.Answer.TheVariants as answer
 use Rattle.shell_walks.specs.declared.remote.Why.{Why}
-use Rattle.shell_link.specs.Asking.{Once, is_local, is_lost, looks, said_of, stops, rereads, look_if, wants_look, fresh_if, AsksOn, AsksUnless, Tries, Asks, Asks.at_once, Asks.unjoined, Asks.joined_first, Asks.again, AsksHinted, MayLearn}
+use Rattle.shell_link.specs.Asking.{Runs, Once, makes, told_of, fresh_if, is_local, is_lost, looks, said_of, stops, rereads, look_if, wants_look, unlinked, unlinked_if, AsksOn, AsksUnless, Tries, AsksFirst, AsksFirst.at_once, AsksFirst.unjoined, AsksFirst.joined_first, Asks, Asks.at_first, Asks.again, AsksHinted, MayLearn}
+use Rattle.shell_link.specs.declared.hearing.Heard.{Heard}
+
+-- what came of a command that has ended
+pub came_to : (was is m : Bool) (old new : State) (c : Command) (a : Answer) (h : Heard) (e : Option Ended) → Runs old c h new e → m ≡ makes c → a ≡ told_of m h e → is ≡ fresh_if h.came was → Once was old c a new is
+came_to was is m old new c a h e r k t f = record { ended = e; heard = h; runs = r; told = t ∙ ap (λ (x : Bool). told_of x h e) k; fresh = f }
 
 -- a connection that is lost too is asked for nothing else
-pub in_vain : (old s : State) (c : Command) (b : Answer) (r : Option Why) (w : Why) → Once old looks b s → r ≡ stops b → r ≡ Some w → Tries old c (answer.Failed w) s
-in_vain old s c b r w o e k = record { looked = b; tried = s; look = o; asks = subst (λ (x : Option Why). AsksUnless x s c (answer.Failed w) s) (sym k ∙ e) (refl, refl) }
+pub in_vain : (was between : Bool) (old s : State) (c : Command) (b : Answer) (r : Option Why) (w : Why) → Once was old looks b s between → r ≡ stops b → r ≡ Some w → Tries was old c (answer.Failed w) s between
+in_vain was between old s c b r w o e k = record { looked = b; tried = s; between = between; look = o; asks = subst (λ (x : Option Why). AsksUnless x between s c (answer.Failed w) s between) (sym k ∙ e) (refl, refl, refl) }
 
-pub in_place : (old s new : State) (c : Command) (b a : Answer) (r : Option Why) → Once old looks b s → r ≡ stops b → r ≡ None → Once s c a new → Tries old c a new
-in_place old s new c b a r o e k n = record { looked = b; tried = s; look = o; asks = subst (λ (x : Option Why). AsksUnless x s c a new) (sym k ∙ e) n }
+pub in_place : (was between is : Bool) (old s new : State) (c : Command) (b a : Answer) (r : Option Why) → Once was old looks b s between → r ≡ stops b → r ≡ None → Once between s c a new is → Tries was old c a new is
+in_place was between is old s new c b a r o e k n = record { looked = b; tried = s; between = between; look = o; asks = subst (λ (x : Option Why). AsksUnless x between s c a new is) (sym k ∙ e) n }
 
--- a command on an open file leaves a connection as fresh as it is
-pub at_local : (old new : State) (c : Command) (a : Answer) (was is : Bool) → is_local c ≡ true → Once old c a new → is ≡ was → Asks was old c a new is
-at_local old new c a was is l o e = subst (λ (b : Bool). Asks was old c a new b) (ap (λ (x : Bool). fresh_if x was) l ∙ sym e) (at_once a new (subst (λ (x : Bool). AsksOn (look_if x (rereads c) was) old c a new) (sym l) o))
+-- a command on an open file isn't asked of a server
+pub at_local : (was is : Bool) (old new : State) (c : Command) (a : Answer) → is_local c ≡ true → Once was old c a new is → AsksFirst was old c a new is
+at_local was is old new c a l o = at_once (subst (λ (x : Bool). AsksOn (look_if x (rereads c) was) was old c a new is) (sym l) o)
 
--- and any other asks on it
-pub at_asked : (old new : State) (c : Command) (a : Answer) (was tries is : Bool) → is_local c ≡ false → tries ≡ wants_look was c → AsksOn tries old c a new → is ≡ false → Asks was old c a new is
-at_asked old new c a was tries is l t o e = subst (λ (b : Bool). Asks was old c a new b) (ap (λ (x : Bool). fresh_if x was) l ∙ sym e) (at_once a new (subst (λ (x : Bool). AsksOn x old c a new) t o))
+-- and any other is, where a connection stands,
+pub at_asked : (was tries is : Bool) (old new : State) (c : Command) (a : Answer) → tries ≡ wants_look was c → AsksOn tries was old c a new is → AsksFirst was old c a new is
+at_asked was tries is old new c a t o = at_once (subst (λ (x : Bool). AsksOn x was old c a new is) t o)
 
-pub at_joined : (old mid new : State) (c : Command) (a : Answer) (was tries is : Bool) → is_local c ≡ false → old.linked ≡ false → mid ≡ joined old → tries ≡ wants_look true c → AsksOn tries mid c a new → is ≡ false → Asks was old c a new is
-at_joined old mid new c a was tries is l n m t o e = subst (λ (b : Bool). Asks was old c a new b) (sym e) (joined_first a new l n (subst (λ (s : State). AsksOn (wants_look true c) s c a new) m (subst (λ (x : Bool). AsksOn x mid c a new) t o)))
+-- where one was joined,
+pub at_joined : (was fresh tries is : Bool) (old mid new : State) (c : Command) (a : Answer) → is_local c ≡ false → old.linked ≡ false → mid ≡ joined old → fresh ≡ true → tries ≡ wants_look true c → AsksOn tries fresh mid c a new is → AsksFirst was old c a new is
+at_joined was fresh tries is old mid new c a l n m f t o = joined_first l n (subst (λ (s : State). AsksOn (wants_look true c) true s c a new is) m (subst (λ (b : Bool). AsksOn (wants_look true c) b mid c a new is) f (subst (λ (x : Bool). AsksOn x fresh mid c a new is) t o)))
 
-pub at_unjoined : (old mid new : State) (c : Command) (a : Answer) (was is : Bool) → is_local c ≡ false → old.linked ≡ false → mid ≡ old → Once mid c a new → is ≡ false → Asks was old c a new is
-at_unjoined old mid new c a was is l n m o e = subst (λ (b : Bool). Asks was old c a new b) (sym e) (unjoined a new l n (subst (λ (s : State). Once s c a new) m o))
+-- a client that has no connection stays as it is where it loses that,
+pub stays : (s new : State) → s.linked ≡ false → new ≡ unlinked s → new ≡ s
+stays s new l e = e ∙ ap (λ (b : Bool). unlinked_if b s) l
 
-pub at_again : (old s mid new : State) (c : Command) (b a : Answer) (was before is : Bool) → rereads c ≡ true → is_lost b ≡ true → Asks was old c b s before → mid ≡ joined s → Tries mid c a new → is ≡ false → Asks was old c a new is
-at_again old s mid new c b a was before is r l k m o e = subst (λ (x : Bool). Asks was old c a new x) (sym e) (again s b a new before r l k (subst (λ (t : State). Tries t c a new) m o))
+-- and where none was
+pub at_unjoined : (was fresh is : Bool) (old mid new : State) (c : Command) (a : Answer) → is_local c ≡ false → old.linked ≡ false → mid ≡ unlinked old → fresh ≡ was → Once fresh mid c a new is → AsksFirst was old c a new is
+at_unjoined was fresh is old mid new c a l n m f o = unjoined l n (subst (λ (s : State). Once was s c a new is) (stays old mid n m) (subst (λ (b : Bool). Once b mid c a new is) f o))
 
-pub stayed : (old s new : State) (c : Command) (a : Answer) (was before is : Bool) → Asks was old c a s before → new ≡ s → is ≡ before → Asks was old c a new is
-stayed old s new c a was before is k e w = subst (λ (b : Bool). Asks was old c a new b) (sym w) (subst (λ (t : State). Asks was old c a t before) (sym e) k)
+-- once more
+pub at_again : (was before fresh is : Bool) (old s mid new : State) (c : Command) (b a : Answer) → rereads c ≡ true → is_lost b ≡ true → AsksFirst was old c b s before → mid ≡ joined s → fresh ≡ true → Tries fresh mid c a new is → Asks was old c a new is
+at_again was before fresh is old s mid new c b a r l k m f o = again s b before r l k (subst (λ (t : State). Tries true t c a new is) m (subst (λ (x : Bool). Tries x mid c a new is) f o))
 
--- the copy of a command is that command
-pub of_copy : (old new : State) (k c : Command) (a : Answer) (was is : Bool) → k ≡ c → Asks was old k a new is → Asks was old c a new is
-of_copy old new k c a was is e r = subst (λ (x : Command). Asks was old x a new is) e r
+-- or not
+pub only_first : (was is : Bool) (old new : State) (c : Command) (a : Answer) → AsksFirst was old c a new is → Asks was old c a new is
+only_first was is old new c a k = at_first k
 
--- the copy is asked again
-pub repeated : (old mid new : State) (k c : Command) (b a : Answer) (was between is : Bool) → k ≡ c → rereads c ≡ true → Asks was old c b mid between → ((o : State) (w : Bool) → rereads k ≡ true → Asks w o k b mid between → Asks w o k a new is) → Asks was old c a new is
-repeated old mid new k c b a was between is e r first more = of_copy old new k c a was is e (more old was (subst (λ (x : Command). rereads x ≡ true) (sym e) r) (of_copy old mid c k b was between (sym e) first))
+pub stayed : (was before is : Bool) (old s new : State) (c : Command) (a : Answer) → AsksFirst was old c a s before → s.linked ≡ false → new ≡ unlinked s → is ≡ before → Asks was old c a new is
+stayed was before is old s new c a k l e w = at_first (subst (λ (b : Bool). AsksFirst was old c a new b) (sym w) (subst (λ (t : State). AsksFirst was old c a t before) (sym (stays s new l e)) k))
+
+-- the copy of a command is that command, and is asked again
+pub repeated : (was between is : Bool) (old mid new : State) (k c : Command) (b a : Answer) → k ≡ c → rereads c ≡ true → AsksFirst was old c b mid between → ((o : State) (w : Bool) → rereads k ≡ true → AsksFirst w o k b mid between → Asks w o k a new is) → Asks was old c a new is
+repeated was between is old mid new k c b a e r first more = subst (λ (x : Command). Asks was old x a new is) e (more old was (subst (λ (x : Command). rereads x ≡ true) (sym e) r) (subst (λ (x : Command). AsksFirst was old x b mid between) (sym e) first))
 
 -- what may have been learned before
-pub hinted : (old fewer mid new : State) (c : Command) (b a : Answer) (was is r : Bool) → fewer ≡ kept_within FILE_MOST old → MayLearn fewer mid → Asks was mid c b new is → r ≡ rereads c → a ≡ said_of r b → AsksHinted was old c a new is
-hinted old fewer mid new c b a was is r f l k e s = record { hinted = mid; hints = subst (λ (x : State). MayLearn x mid) f l; heard = b; asks = k; told = s ∙ ap (λ (x : Bool). said_of x b) e }
+pub hinted : (was is r : Bool) (old fewer mid new : State) (c : Command) (b a : Answer) → fewer ≡ kept_within FILE_MOST old → MayLearn fewer mid → Asks was mid c b new is → r ≡ rereads c → a ≡ said_of r b → AsksHinted was old c a new is
+hinted was is r old fewer mid new c b a f l k e s = record { hinted = mid; hints = subst (λ (x : State). MayLearn x mid) f l; heard = b; asks = k; told = s ∙ ap (λ (x : Bool). said_of x b) e }
 
 -- which of the two it is
-pub where_tried : (tries : Bool) (s new : State) (c : Command) (a : Answer) → tries ≡ true → Tries s c a new → AsksOn tries s c a new
-where_tried tries s new c a e t = subst (λ (b : Bool). AsksOn b s c a new) (sym e) t
+pub where_tried : (tries was is : Bool) (s new : State) (c : Command) (a : Answer) → tries ≡ true → Tries was s c a new is → AsksOn tries was s c a new is
+where_tried tries was is s new c a e t = subst (λ (b : Bool). AsksOn b was s c a new is) (sym e) t
 
-pub where_asked : (tries : Bool) (s new : State) (c : Command) (a : Answer) → tries ≡ false → Once s c a new → AsksOn tries s c a new
-where_asked tries s new c a e o = subst (λ (b : Bool). AsksOn b s c a new) (sym e) o
+pub where_asked : (tries was is : Bool) (s new : State) (c : Command) (a : Answer) → tries ≡ false → Once was s c a new is → AsksOn tries was s c a new is
+where_asked tries was is s new c a e o = subst (λ (b : Bool). AsksOn b was s c a new is) (sym e) o

@@ -1,5 +1,5 @@
 -- Hints that the client gets: what is known where one was taken, and where none was.
-use Rattle.std.proofs.Common.{◌≡◌, refl, sym, subst, ℕ, List, Bool, Result, Ok, Err, IfOk, OnErr}
+use Rattle.std.proofs.Common.{◌≡◌, subst, ℕ, List, Bool, Result, Ok, Err, IfOk, OnErr}
 use Rattle.client_state.specs.Hints.{Learns, Offers}
 use Rattle.client_state.specs.State.{State}
 use Rattle.shell_link.specs.Asking.{MayLearn, MayLearn.nothing_learned, MayLearn.learned, MayOffer, MayOffer.nothing_offered, MayOffer.offered}

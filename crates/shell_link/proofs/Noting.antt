@@ -1,9 +1,8 @@
 -- A client whose drift no term is above notes no lease.
-use Rattle.std.proofs.Common.{◌≡◌, refl, sym, ap, ◌∙◌, ℕ, ◌≤◌, ◌+◌, ◌-◌, Bool, true, false, cond, Option, Some, None, nat_lt, arith}
+use Rattle.std.proofs.Common.{◌≡◌, refl, ℕ, ◌≤◌, ◌+◌, ◌-◌, Bool, true, false, cond, Some, None, nat_lt, arith}
 use Rattle.std.proofs.lemmas.Bool.Decides.{nat_tests}
-use Rattle.client_state.specs.Noting.{noted, noted_until}
+use Rattle.client_state.specs.Noting.{noted_until}
 use Rattle.client_state.specs.State.{State}
-use Rattle.client_state.specs.declared.noting.Granted.{Granted}
 use Rattle.shell_link.specs.Asking.{NotesNothing}
 
 not_above : (d t : ℕ) → d ≡ 4294967295 → t ≤ 4294967295 → nat_lt d t ≡ false

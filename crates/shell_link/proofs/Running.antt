@@ -1,10 +1,10 @@
 -- What goes out, and what is heard, of a command that runs.
-use Rattle.std.proofs.Common.{◌≡◌, ◌⊎◌, ℕ, Option, Some, None, Result, inl, inr, sym, subst, refl}
+use Rattle.std.proofs.Common.{◌≡◌, Option, None, inl, inr, sym, subst}
 use Rattle.command_text.specs.declared.command.Command.{Command}
 use Rattle.client_state.specs.Ending.{cut}
 use Rattle.client_state.specs.State.{State}
 use Rattle.client_state.specs.declared.step.Ended.{Ended}
-use Rattle.shell_link.specs.Asking.{kept, Sends, Runs, Runs.takes, Runs.hears, Runs.loses}
+use Rattle.shell_link.specs.Asking.{kept, Sends, Runs, Runs.loses}
 use Rattle.shell_link.specs.declared.hearing.Heard.{Heard}
 
 -- what was said went out, or the connection is lost

@@ -95,11 +95,18 @@ abbrev pub told_of : (makes : Bool) → Heard → Option Ended → Answer
 told_of m h (Some e) = answer_of m h e.outcome
 told_of m h None = answer.Failed why.Memory
 
-pub record Once (old : State) (c : Command) (a : Answer) (new : State) : Type 0 where
+-- A connection is fresh while nothing has come on it since it was joined: a relay takes one with no server behind it. What asks no server, or what memory kept from going out, leaves it so.
+abbrev pub fresh_if : (came is_fresh : Bool) → Bool
+fresh_if true f = false
+fresh_if false f = f
+
+-- before the command and behind it, whether the connection is fresh
+pub record Once (was : Bool) (old : State) (c : Command) (a : Answer) (new : State) (is : Bool) : Type 0 where
   pub ended : Option Ended
   pub heard : Heard
   pub runs : Runs old c heard new ended
   pub told : a ≡ told_of (makes c) heard ended
+  pub fresh : is ≡ fresh_if heard.came was
 
 -- messages went out, or the connection is lost
 abbrev pub Sends : State → Option Ended → State → Option Ended → Type 0
@@ -141,22 +148,23 @@ stops (answer.Failed (why.BadPeer n)) = Some (why.BadPeer n)
 stops (answer.Failed why.Memory) = Some why.Memory
 stops a = None
 
-abbrev pub AsksUnless : Option Why → State → Command → Answer → State → Type 0
-AsksUnless (Some w) s c a new = (a ≡ answer.Failed w) × (new ≡ s)
-AsksUnless None s c a new = Once s c a new
+abbrev pub AsksUnless : Option Why → Bool → State → Command → Answer → State → Bool → Type 0
+AsksUnless (Some w) was s c a new is = (a ≡ answer.Failed w) × (new ≡ s) × (is ≡ was)
+AsksUnless None was s c a new is = Once was s c a new is
 
 -- the look, and then the command, unless nothing else is asked for
-pub record Tries (old : State) (c : Command) (a : Answer) (new : State) : Type 0 where
+pub record Tries (was : Bool) (old : State) (c : Command) (a : Answer) (new : State) (is : Bool) : Type 0 where
   pub looked : Answer
   pub tried : State
-  pub look : Once old looks looked tried
-  pub asks : AsksUnless (stops looked) tried c a new
+  pub between : Bool
+  pub look : Once was old looks looked tried between
+  pub asks : AsksUnless (stops looked) between tried c a new is
 
-abbrev pub AsksOn : (tries : Bool) → State → Command → Answer → State → Type 0
+abbrev pub AsksOn : (tries : Bool) → Bool → State → Command → Answer → State → Bool → Type 0
 AsksOn true = Tries
 AsksOn false = Once
 
--- a change is the first that is asked for on its connection: that is tried
+-- a change is asked for on a fresh connection: that is tried
 abbrev pub look_if : (is_local rereads is_fresh : Bool) → Bool
 look_if true r f = false
 look_if false true f = false
@@ -165,17 +173,24 @@ look_if false false f = f
 abbrev pub wants_look : (is_fresh : Bool) → Command → Bool
 wants_look f c = look_if (is_local c) (rereads c) f
 
--- what asks no server leaves a connection as fresh as it is
-abbrev pub fresh_if : (is_local is_fresh : Bool) → Bool
-fresh_if true f = f
-fresh_if false f = false
+-- a client without its connection, as the loss of that leaves it; without one it is as it was
+abbrev pub unlinked_if : (linked : Bool) → State → State
+unlinked_if true s = (cut s).0
+unlinked_if false s = s
 
--- Where no connection is there one is joined first, or none can be. Where it was lost meanwhile, what changes nothing is asked again on another, which is tried. Before it and behind it, whether a connection is fresh: joined, and no server was asked for anything on it.
-pub data Asks (is_fresh : Bool) (old : State) (c : Command) : Answer → State → Bool → Type 0 where
-  at_once : (a : Answer) (new : State) → AsksOn (wants_look is_fresh c) old c a new → Asks is_fresh old c a new (fresh_if (is_local c) is_fresh)
-  unjoined : (a : Answer) (new : State) → is_local c ≡ false → old.linked ≡ false → Once old c a new → Asks is_fresh old c a new false
-  joined_first : (a : Answer) (new : State) → is_local c ≡ false → old.linked ≡ false → AsksOn (wants_look true c) (joined old) c a new → Asks is_fresh old c a new false
-  again : (s : State) (b a : Answer) (new : State) (f : Bool) → rereads c ≡ true → is_lost b ≡ true → Asks is_fresh old c b s f → Tries (joined s) c a new → Asks is_fresh old c a new false
+abbrev pub unlinked : State → State
+unlinked s = unlinked_if s.linked s
+
+-- where no connection is there one is joined first, which is fresh, or none can be
+pub data AsksFirst (was : Bool) (old : State) (c : Command) (a : Answer) (new : State) (is : Bool) : Type 0 where
+  at_once : AsksOn (wants_look was c) was old c a new is → AsksFirst was old c a new is
+  unjoined : is_local c ≡ false → old.linked ≡ false → Once was old c a new is → AsksFirst was old c a new is
+  joined_first : is_local c ≡ false → old.linked ≡ false → AsksOn (wants_look true c) true (joined old) c a new is → AsksFirst was old c a new is
+
+-- where it was lost meanwhile, what changes nothing is asked once more, on another, which is tried
+pub data Asks (was : Bool) (old : State) (c : Command) (a : Answer) (new : State) (is : Bool) : Type 0 where
+  at_first : AsksFirst was old c a new is → Asks was old c a new is
+  again : (s : State) (b : Answer) (f : Bool) → rereads c ≡ true → is_lost b ≡ true → AsksFirst was old c b s f → Tries true (joined s) c a new is → Asks was old c a new is
 
 -- ---- hints, which nobody trusts
 
@@ -203,11 +218,11 @@ abbrev pub said_of : (changes_nothing : Bool) → Answer → Answer
 said_of b a = said_if (b && is_lost a) a
 
 -- a command, and before it what is kept is no more than one file may have, and the file that was closed last may be learned
-pub record AsksHinted (is_fresh : Bool) (old : State) (c : Command) (a : Answer) (new : State) (f : Bool) : Type 0 where
+pub record AsksHinted (was : Bool) (old : State) (c : Command) (a : Answer) (new : State) (is : Bool) : Type 0 where
   pub hinted : State
   pub hints : MayLearn (kept_within FILE_MOST old) hinted
   pub heard : Answer
-  pub asks : Asks is_fresh hinted c heard new f
+  pub asks : Asks was hinted c heard new is
   pub told : a ≡ said_of (rereads c) heard
 
 -- ---- leases, of which a shell wants none

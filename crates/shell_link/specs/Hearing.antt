@@ -13,7 +13,7 @@ use Rattle.shell_link.specs.declared.hearing.Heard.{Heard}
 use Rattle.shell_walks.specs.declared.remote.Listed.{Listed}
 
 abbrev pub nothing_heard : Heard
-nothing_heard = record { ids = Some []; made = None }
+nothing_heard = record { ids = Some []; made = None; came = false }
 
 -- the ids of a page (RFC 1813, section 3.3.16: fileid) go behind those that there are; there are none any more where memory runs out
 abbrev pub HeedsPage : Option (List ℕ) → List Entry → Option (List ℕ) → Type 0
@@ -26,13 +26,17 @@ made_id None = None
 made_id (Some handle) = file_of handle
 
 abbrev pub HeedsNfs : Heard → Nfs → Heard → Type 0
-HeedsNfs h (nfs.ReadDirAnswer (Done l)) new = (new.made ≡ h.made) × HeedsPage h.ids l.entries new.ids
+HeedsNfs h (nfs.ReadDirAnswer (Done l)) new = (new.made ≡ h.made) × (new.came ≡ h.came) × HeedsPage h.ids l.entries new.ids
 HeedsNfs h (nfs.CreateAnswer (Done m)) new = new ≡ record h { made = made_id m.handle }
 HeedsNfs h a new = new ≡ h
 
+abbrev pub HeedsMessage : Heard → Result Message WireFault → Heard → Type 0
+HeedsMessage h (Ok (message.Answer xid (body.Nfs a))) new = HeedsNfs h a new
+HeedsMessage h m new = new ≡ h
+
+-- whatever comes tells that somebody is there
 abbrev pub Heeds : Heard → Result Message WireFault → Heard → Type 0
-Heeds h (Ok (message.Answer xid (body.Nfs a))) new = HeedsNfs h a new
-Heeds h m new = new ≡ h
+Heeds h m new = HeedsMessage (record h { came = true }) m new
 
 -- ---- what it comes to
 

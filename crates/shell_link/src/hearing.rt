@@ -15,13 +15,15 @@ use wire::message::{Body, Message};
 use xdr_codec::answer::Answer;
 use xdr_codec::handle::Handle;
 
-/// What the answers to one command told so far.
+/// What came for one command so far.
 #[derive(Drop)]
 pub(crate) struct Heard {
     /// The ids on the pages that came; none once memory ran out for one.
     pub ids: Option<Items<u64>>,
     /// The file that the last CREATE made.
     pub made: Option<u64>,
+    /// Whether anything came at all.
+    pub came: bool,
 }
 
 /// Nothing was heard yet.
@@ -31,6 +33,7 @@ pub(crate) fn nothing_heard(alloc: Global) -> Heard
     Heard {
         ids: Some(Items::new(alloc)),
         made: None,
+        came: false,
     }
 }
 
@@ -81,10 +84,11 @@ fn heed_nfs(heard: &mut Heard, answer: &Nfs)
     }
 }
 
-/// What a message tells is heard.
+/// What a message tells is heard, and that something came.
 pub(crate) fn heed(heard: &mut Heard, message: &Result<Message, WireFault>)
     ensures { Heeds heard.old message.now heard.new }
 {
+    heard.came = true;
     if let Ok(Message::Answer(_, Body::Nfs(answer))) = message {
         heed_nfs(heard, answer);
     }

@@ -1,7 +1,7 @@
 //! What a shell makes of how a command ended, and which commands may be asked again: `specs/Asking.antt`.
 
 ghost use Rattle.std.specs.Prelude.{◌≡◌, true, IfOk, IfSome};
-ghost use Rattle.shell_link.specs.Asking.{fault_number, is_directory, done_as, answer_of, makes, is_lost, is_local, said_of, stops, reads, rereads, look_if, wants_look};
+ghost use Rattle.shell_link.specs.Asking.{fault_number, is_directory, done_as, answer_of, makes, is_lost, is_local, said_of, stops, reads, rereads, fresh_if, look_if, wants_look};
 
 use crate::hearing::{Heard, listed_as};
 use client_state::step::{BadPeer, Outcome};
@@ -137,8 +137,14 @@ pub(crate) fn rereads(command: &Command) -> bool
     }
 }
 
-/// Whether a connection is tried before a command is asked for: before a change, where nothing was asked for on it
-/// yet.
+/// Whether a connection is fresh still, behind a command for which something came on it, or didn't.
+pub(crate) fn fresh_if(came: bool, is_fresh: bool) -> bool
+    ensures { result ≡ fresh_if came is_fresh }
+{
+    is_fresh && !came
+}
+
+/// Whether a connection is tried before a command is asked for: before a change, where nothing came on it yet.
 pub(crate) fn wants_look(is_fresh: bool, command: &Command) -> bool
     ensures { result ≡ wants_look is_fresh command.now }
 {

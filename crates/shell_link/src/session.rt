@@ -8,13 +8,14 @@ ghost use Rattle.client_state.specs.State.{State, start_with, local_bytes};
 ghost use Rattle.client_state.specs.Ending.{cut, joined};
 ghost use Rattle.wire.specs.declared.message.TheConstants.{LBFS_SPOKEN};
 ghost use Rattle.command_text.specs.declared.command.Command.{Command};
-ghost use Rattle.shell_link.specs.Asking.{answer_of, makes, told_of, kept, Sends, Runs, Once, Tries, AsksOn, Asks, AsksHinted, is_local, MayLearn, MayOffer, MayWarm, rereads, NotesNothing, Leaves};
+ghost use Rattle.shell_link.specs.Asking.{answer_of, makes, told_of, kept, Sends, Runs, Once, Tries, AsksOn, AsksFirst, Asks, AsksHinted, unlinked};
+ghost use Rattle.shell_link.specs.Asking.{is_local, MayLearn, MayOffer, MayWarm, rereads, NotesNothing, Leaves};
 ghost use Rattle.shell_link.specs.Hearing.{nothing_heard};
 ghost use Rattle.shell_link.specs.declared.session.TheConstants.{DRIFT};
 
 use crate::hearing::{Heard, heed, nothing_heard};
 use crate::outcomes::{
-    again_of, answer_of, is_local, is_lost, makes, rereads, said_of, stops, wants_look,
+    again_of, answer_of, fresh_if, is_local, is_lost, makes, rereads, said_of, stops, wants_look,
 };
 use client_state::step::{ClientStep, Ended, Outcome};
 use command_text::command::Command;
@@ -54,7 +55,7 @@ struct Line<L> {
 pub struct Session<'e, D: Dials, C> {
     client: Client,
     line: Option<Line<D::L>>,
-    /// Whether a connection was joined on which no server was asked for anything yet.
+    /// Whether a connection was joined on which nothing came yet.
     is_fresh: bool,
     /// The file that was closed last, whose places the client's index gets before the next command.
     stored: Option<u64>,
@@ -198,19 +199,18 @@ fn run<L: Link, C: Clock>(
     line: &mut Option<Line<L>>,
     command: Command,
     clock: &C,
-) -> Answer
-    ensures { Once client.old command result client.new }
+) -> (Heard, Option<Ended>)
+    ensures { Runs client.old command result.0 client.new result.1 }
 {
-    let makes = makes(&command);
     let mut heard = nothing_heard(alloc);
     let mut ended = begin(alloc, client, line, command, clock.now());
     for _turn in 0..u64::MAX {
         if ended.is_some() {
-            return told(alloc, makes, heard, ended);
+            return (heard, ended);
         }
         ended = go_on(alloc, client, line, &mut heard, clock.now());
     }
-    told(alloc, makes, heard, ended)
+    (heard, ended)
 }
 
 /// A line is shut, where there is one.
@@ -219,6 +219,22 @@ fn shut<L: Link + Drop>(line: &mut Option<Line<L>>) {
         line.link.shut();
     }
     *line = None;
+}
+
+/// The line of a client that has no connection any more is shut.
+fn shut_unlinked<L: Link + Drop>(client: &Client, line: &mut Option<Line<L>>) {
+    if !client.linked() {
+        shut(line);
+    }
+}
+
+/// A client whose line is shut hears that it has no connection any more.
+fn unlink(alloc: Global, client: &mut Client)
+    ensures { client.new ≡ unlinked client.old }
+{
+    if client.linked() {
+        drop(lose(alloc, client, None));
+    }
 }
 
 /// A new line to the server.
@@ -304,10 +320,10 @@ where
         })
     }
 
-    /// Joins a connection. It answers whether there is one.
+    /// Joins a connection, in place of the one that there was. It answers whether there is one now.
     pub fn join(&mut self, alloc: Global) -> bool
         ensures joined { result ≡ true → self.new.client ≡ joined self.old.client }
-        ensures stays { result ≡ false → self.new.client ≡ self.old.client }
+        ensures unlinked { result ≡ false → self.new.client ≡ unlinked self.old.client }
         ensures fresh { result ≡ true → self.new.is_fresh ≡ true }
         ensures kept { result ≡ false → self.new.is_fresh ≡ self.old.is_fresh }
     {
@@ -319,27 +335,28 @@ where
                 self.is_fresh = true;
                 true
             }
-            None => false,
+            None => {
+                unlink(alloc, &mut self.client);
+                false
+            }
         }
     }
 
     /// Runs a command on the connection that there is.
     fn once(&mut self, alloc: Global, command: Command) -> Answer
-        ensures once { Once self.old.client command result self.new.client }
-        ensures kept { self.new.is_fresh ≡ self.old.is_fresh }
+        ensures { Once self.old.is_fresh self.old.client command result self.new.client self.new.is_fresh }
     {
-        let answer = run(alloc, &mut self.client, &mut self.line, command, self.clock);
-        if !self.client.linked() {
-            shut(&mut self.line);
-        }
-        answer
+        let makes = makes(&command);
+        let (heard, ended) = run(alloc, &mut self.client, &mut self.line, command, self.clock);
+        self.is_fresh = fresh_if(heard.came, self.is_fresh);
+        shut_unlinked(&self.client, &mut self.line);
+        told(alloc, makes, heard, ended)
     }
 
     /// Runs a command on a connection that is tried first. A relay takes connections whether or not a server is
     /// behind it, and a change that was asked for and lost may be done, or not, and nobody could tell.
     fn tried(&mut self, alloc: Global, command: Command) -> Answer
-        ensures tries { Tries self.old.client command result self.new.client }
-        ensures kept { self.new.is_fresh ≡ self.old.is_fresh }
+        ensures { Tries self.old.is_fresh self.old.client command result self.new.client self.new.is_fresh }
     {
         let looked = self.once(alloc, Command::Named(PathCommand::LookRoot));
         match stops(&looked) {
@@ -350,8 +367,7 @@ where
 
     /// Runs a command on a connection that is to be tried first, or isn't.
     fn on(&mut self, alloc: Global, tries: bool, command: Command) -> Answer
-        ensures asks { AsksOn tries self.old.client command result self.new.client }
-        ensures kept { self.new.is_fresh ≡ self.old.is_fresh }
+        ensures { AsksOn tries self.old.is_fresh self.old.client command result self.new.client self.new.is_fresh }
     {
         if tries {
             self.tried(alloc, command)
@@ -364,19 +380,16 @@ where
     #[tactic(auto, using(crate::proofs::Again::at_asked, crate::proofs::Again::at_joined, crate::proofs::Again::at_unjoined))]
     fn asked(&mut self, alloc: Global, command: Command) -> Answer
         requires { is_local command ≡ false }
-        ensures { Asks self.old.is_fresh self.old.client command result self.new.client self.new.is_fresh }
+        ensures { AsksFirst self.old.is_fresh self.old.client command result self.new.client self.new.is_fresh }
     {
         if self.client.linked() {
             let tries = wants_look(self.is_fresh, &command);
-            self.is_fresh = false;
             return self.on(alloc, tries, command);
         }
         if self.join(alloc) {
             let tries = wants_look(true, &command);
-            self.is_fresh = false;
             self.on(alloc, tries, command)
         } else {
-            self.is_fresh = false;
             self.once(alloc, command)
         }
     }
@@ -384,7 +397,7 @@ where
     /// Runs a command: one on an open file as it is, and any other where a server is.
     #[tactic(auto, using(crate::proofs::Again::at_local))]
     fn first(&mut self, alloc: Global, command: Command) -> Answer
-        ensures { Asks self.old.is_fresh self.old.client command result self.new.client self.new.is_fresh }
+        ensures { AsksFirst self.old.is_fresh self.old.client command result self.new.client self.new.is_fresh }
     {
         if is_local(&command) {
             self.once(alloc, command)
@@ -395,17 +408,16 @@ where
 
     /// A command that may be asked again is, where its answer was that the connection is lost, a new one is
     /// joined, and a server is behind that.
-    #[tactic(auto, using(crate::proofs::Again::at_again, crate::proofs::Again::stayed))]
+    #[tactic(auto, using(crate::proofs::Again::only_first, crate::proofs::Again::stayed))]
     fn repeat(&mut self, alloc: Global, command: Command, answer: Answer) -> Answer
-        ensures { (o : State) (was : Bool) → rereads command ≡ true → Asks was o command answer self.old.client self.old.is_fresh
+        ensures { (o : State) (was : Bool) → rereads command ≡ true → AsksFirst was o command answer self.old.client self.old.is_fresh
             → Asks was o command result self.new.client self.new.is_fresh }
     {
-        if !is_lost(&answer) {
+        if self.client.linked() || !is_lost(&answer) {
             return answer;
         }
         if self.join(alloc) {
             drop(answer);
-            self.is_fresh = false;
             self.tried(alloc, command)
         } else {
             answer
@@ -475,8 +487,6 @@ where
             say_farewell(alloc, &mut self.client, &mut self.line);
         }
         self.is_used = false;
-        if !self.client.linked() {
-            shut(&mut self.line);
-        }
+        shut_unlinked(&self.client, &mut self.line);
     }
 }
