@@ -24,18 +24,21 @@ use std::rt::Files as HostDisk;
 pub struct HostFiles<R> {
     rt: R,
     mark: u32,
+    /// The name of the cache file, if there is one.
+    cache: Option<String>,
     faults: u64,
 }
 
 impl<R> HostFiles<R> {
     /// Files with no fault so far. The mark is no other program's at the same time, as the process's
-    /// number: the file that is being written has it in its name.
-    pub fn new(rt: R, mark: u32) -> HostFiles<R>
-        ensures { result ≡ record { rt = rt; mark = mark; faults = 0 } }
+    /// number: the file that is being written has it in its name. A cache file that is new is its owner's alone.
+    pub fn new(rt: R, mark: u32, cache: Option<String>) -> HostFiles<R>
+        ensures { result ≡ record { rt = rt; mark = mark; cache = cache; faults = 0 } }
     {
         HostFiles {
             rt,
             mark,
+            cache,
             faults: 0,
         }
     }
@@ -103,7 +106,7 @@ fn tell_untaken<R: Eprint>(rt: &R, name: &str, why: Untaken) {
 impl<R: HostDisk> HostFiles<R> {
     /// Puts a file at a path.
     fn write(&self, alloc: Global, path: &str, bytes: &[u8]) -> Result<(), Untaken> {
-        let target = target_of(&self.rt, alloc, path)?;
+        let target = target_of(&self.rt, alloc, path, self.cache.as_deref())?;
         let mount = Writer::Mount(self.mark);
         match replace(&self.rt, alloc, &target, mount, &mut 0, bytes) {
             Ok(()) => Ok(()),

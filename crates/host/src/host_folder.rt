@@ -22,17 +22,24 @@ const LISTING_MOST: usize = 1_073_741_824;
 
 /// The files and folders of the host.
 #[derive(Drop)]
-pub struct HostFolder<R> {
+pub struct HostFolder<'a, R> {
     rt: R,
     mark: u32,
     number: u32,
+    /// The path of the cache file, if there is one.
+    cache: Option<&'a str>,
 }
 
-impl<R> HostFolder<R> {
+impl<'a, R> HostFolder<'a, R> {
     /// The host's files. The mark is the process's number, and the number another one for each thread: the file
     /// that is being written is named after them, or after the next number that is free in its folder.
-    pub fn new(rt: R, mark: u32, number: u32) -> HostFolder<R> {
-        HostFolder { rt, mark, number }
+    pub fn new(rt: R, mark: u32, number: u32, cache: Option<&'a str>) -> HostFolder<'a, R> {
+        HostFolder {
+            rt,
+            mark,
+            number,
+            cache,
+        }
     }
 }
 
@@ -85,8 +92,13 @@ fn read_file<R: HostDisk>(rt: &R, alloc: Global, path: &str) -> Result<Bytes, Lo
 }
 
 /// What is replaced by a file at a path, or made.
-fn target_at<R: HostDisk>(rt: &R, alloc: Global, path: &str) -> Result<Target, LocalFault> {
-    match target_of(rt, alloc, path) {
+fn target_at<R: HostDisk>(
+    rt: &R,
+    alloc: Global,
+    path: &str,
+    cache: Option<&str>,
+) -> Result<Target, LocalFault> {
+    match target_of(rt, alloc, path, cache) {
         Ok(target) => Ok(target),
         Err(Untaken::Folder) => Err(LocalFault::IsFolder),
         Err(Untaken::Odd) => Err(LocalFault::Odd),
@@ -152,27 +164,28 @@ fn read_names<R: HostDisk>(rt: &R, alloc: Global, path: &str) -> Result<Vec<u8>,
 
 /// What gives each thread the host's files.
 #[derive(Drop)]
-pub struct HostFolders<R> {
+pub struct HostFolders<'a, R> {
     rt: R,
     mark: u32,
+    cache: Option<&'a str>,
 }
 
-impl<R> HostFolders<R> {
-    /// The host's files. The mark is the process's number.
-    pub fn new(rt: R, mark: u32) -> HostFolders<R> {
-        HostFolders { rt, mark }
+impl<'a, R> HostFolders<'a, R> {
+    /// The host's files. The mark is the process's number. A cache file that is new is its owner's alone.
+    pub fn new(rt: R, mark: u32, cache: Option<&'a str>) -> HostFolders<'a, R> {
+        HostFolders { rt, mark, cache }
     }
 }
 
-impl<R: HostDisk + HostTime + Eprint + Copy> Folders for HostFolders<R> {
-    type F = HostFolder<R>;
+impl<'a, R: HostDisk + HostTime + Eprint + Copy> Folders for HostFolders<'a, R> {
+    type F = HostFolder<'a, R>;
 
-    fn folder(&self, number: u32) -> HostFolder<R> {
-        HostFolder::new(self.rt, self.mark, number)
+    fn folder(&self, number: u32) -> HostFolder<'a, R> {
+        HostFolder::new(self.rt, self.mark, number, self.cache)
     }
 }
 
-impl<R: HostDisk + HostTime + Eprint> Folder for HostFolder<R> {
+impl<'a, R: HostDisk + HostTime + Eprint> Folder for HostFolder<'a, R> {
     ghost finds = { λ _ _ _ _. Unit {0} };
 
     ghost reads = { λ _ _ _ _. Unit {0} };
@@ -222,7 +235,7 @@ impl<R: HostDisk + HostTime + Eprint> Folder for HostFolder<R> {
     }
 
     fn try_write(&mut self, alloc: Global, path: &str) -> Result<(), LocalFault> {
-        let target = target_at(&self.rt, alloc, path)?;
+        let target = target_at(&self.rt, alloc, path, self.cache)?;
         let shell = Writer::Shell(self.mark);
         match make_beside(&self.rt, alloc, &target, shell, &mut self.number) {
             Ok((beside, file)) => {
@@ -235,7 +248,7 @@ impl<R: HostDisk + HostTime + Eprint> Folder for HostFolder<R> {
     }
 
     fn write(&mut self, alloc: Global, path: &str, bytes: &[u8]) -> Result<(), LocalFault> {
-        let target = target_at(&self.rt, alloc, path)?;
+        let target = target_at(&self.rt, alloc, path, self.cache)?;
         let shell = Writer::Shell(self.mark);
         match replace(&self.rt, alloc, &target, shell, &mut self.number, bytes) {
             Ok(()) => Ok(()),

@@ -1,11 +1,14 @@
-//! How a file of the host is replaced, for a mount and a shell: it is written beside the one that has the name,
-//! with the permissions of that one, and then put in its place.
+//! How a file of the host is replaced, for a mount and a shell: it is written beside the one that has the name, where
+//! its owner alone may read it, gets the permissions of that one, and is then put in its place.
+
+ghost use Rattle.std.specs.Prelude.{◌≡◌, IfSome, IfNone};
+ghost use Rattle.host.specs.declared.replacing.TheConstants.{OPEN, PRIVATE};
 
 use shell_words::local::LocalPath;
 use std::alloc::{AllocError, Global};
-use std::fs::{File, Metadata, OpenFile, Permissions};
+use std::fs::{Metadata, OpenFile, OpenOptions, Permissions};
 use std::io::{ErrorKind, Write};
-use std::os::unix::fs::PermissionsExt;
+use std::os::unix::fs::{OpenOptionsExt, PermissionsExt};
 use std::rt::Files as HostDisk;
 use std::{fs, io};
 
@@ -15,6 +18,12 @@ const TRIES: u32 = 1_024;
 /// The bits of a mode that a file keeps which is replaced: who may read, write and run it.
 const KEPT: u32 = 0o777;
 
+/// The bits of a file that its owner alone may read and write.
+const PRIVATE: u32 = 0o600;
+
+/// The bits of a file that is new, of which the umask takes some away.
+const OPEN: u32 = 0o666;
+
 /// Whose file it is that is being written, by the process's number.
 #[derive(Clone, Copy)]
 pub(crate) enum Writer {
@@ -22,12 +31,15 @@ pub(crate) enum Writer {
     Shell(u32),
 }
 
-/// What is replaced, or made, and what keeps its permissions where it is there.
+/// What is replaced, or made.
 #[derive(Drop)]
 pub(crate) struct Target {
     /// What the path leads to.
     path: String,
-    kept: Option<Metadata>,
+    /// The bits of what is replaced, if anything is: the file gets these once it is whole.
+    kept: Option<u32>,
+    /// The bits with which the file is made, before its bytes come.
+    made: u32,
 }
 
 /// Why no file is put at a path.
@@ -65,11 +77,32 @@ fn led_to<R: HostDisk>(rt: &R, alloc: Global, path: &str) -> io::Result<String> 
     }
 }
 
-/// What is replaced by a file at a path, or made.
-pub(crate) fn target_of<R: HostDisk>(rt: &R, alloc: Global, path: &str) -> Result<Target, Untaken> {
-    let kept = found_at(rt, path)?;
+/// With which bits a file is made at a path where none is. A cache file is its owner's alone: it has what was fetched,
+/// of whatever file.
+fn new_bits(path: &str, cache: Option<&str>) -> u32
+    ensures own { IfSome cache.entry (λ cache. cache.now ≡ path.now → result ≡ PRIVATE) }
+    ensures other { IfSome cache.entry (λ cache. (cache.now ≡ path.now → ⊥) → result ≡ OPEN) }
+    ensures none { IfNone cache.entry (result ≡ OPEN) }
+{
+    match cache {
+        Some(cache) if cache == path => PRIVATE,
+        _ => OPEN,
+    }
+}
+
+/// What is replaced by a file at a path, or made. At the path `cache`, if there is one, stands a cache file.
+pub(crate) fn target_of<R: HostDisk>(
+    rt: &R,
+    alloc: Global,
+    path: &str,
+    cache: Option<&str>,
+) -> Result<Target, Untaken> {
+    let (kept, made) = match found_at(rt, path)? {
+        Some(facts) => (Some(facts.permissions().mode() & KEPT), PRIVATE),
+        None => (None, new_bits(path, cache)),
+    };
     match led_to(rt, alloc, path) {
-        Ok(path) => Ok(Target { path, kept }),
+        Ok(path) => Ok(Target { path, kept, made }),
         Err(why) => Err(Untaken::Failed(why)),
     }
 }
@@ -99,6 +132,13 @@ fn name_of(alloc: Global, writer: Writer, number: u32) -> io::Result<String> {
     }
 }
 
+/// A new file at a path at which nothing stands, which has its bits as soon as it is there.
+fn make_new<R: HostDisk>(rt: &R, path: &str, bits: u32) -> io::Result<R::File> {
+    let mut options = OpenOptions::new();
+    options.write(true).create_new(true).mode(bits);
+    options.open(rt, path)
+}
+
 /// A new file beside a target, and its path. A name may be taken, as by what a process left that had the same number,
 /// by what one writes in another container, or by anybody where the folder is anybody's: then it is the next one.
 pub(crate) fn make_beside<R: HostDisk>(
@@ -110,7 +150,7 @@ pub(crate) fn make_beside<R: HostDisk>(
 ) -> io::Result<(String, R::File)> {
     for _try in 0..TRIES {
         let path = target.beside(alloc, name_of(alloc, writer, *number)?.as_str())?;
-        match File::create_new(rt, path.as_str()) {
+        match make_new(rt, path.as_str(), target.made) {
             Ok(file) => return Ok((path, file)),
             Err(why) if why.kind() == ErrorKind::AlreadyExists => {
                 *number = number.saturating_add(1);
@@ -121,23 +161,15 @@ pub(crate) fn make_beside<R: HostDisk>(
     Err(ErrorKind::AlreadyExists.into())
 }
 
-/// A file gets the permissions of the one that it is to replace. That it runs as its owner or group does, it doesn't
-/// keep: the owner is now who runs this program, and a server chose the bytes.
-fn keep_permissions<F: OpenFile>(file: &F, target: &Target) -> io::Result<()> {
-    match &target.kept {
-        Some(kept) => {
-            file.set_permissions(Permissions::from_mode(kept.permissions().mode() & KEPT))
-        }
+/// Writes a file that is to replace a target. Once it is whole it gets the permissions of that: until then nobody else
+/// reads it. That it runs as its owner or group does, it doesn't get: the owner is now who runs this program, and a
+/// server chose the bytes.
+fn fill<F: OpenFile + Write>(file: &mut F, target: &Target, bytes: &[u8]) -> io::Result<()> {
+    file.write_all(bytes)?;
+    match target.kept {
+        Some(bits) => file.set_permissions(Permissions::from_mode(bits)),
         None => Ok(()),
     }
-}
-
-/// Writes a file that is to replace a target, with its permissions. It has them before its bytes, so that nobody
-/// reads these who may not, and again behind them, should the system take some away as it is written.
-fn fill<F: OpenFile + Write>(file: &mut F, target: &Target, bytes: &[u8]) -> io::Result<()> {
-    keep_permissions(file, target)?;
-    file.write_all(bytes)?;
-    keep_permissions(file, target)
 }
 
 /// Replaces a target by a new file of these bytes, which is written beside it. Where that fails, what was there

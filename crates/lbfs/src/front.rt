@@ -143,6 +143,14 @@ fn needs_of(alloc: Global, cache: &Option<StorePath>) -> Result<Needs, AllocErro
     }
 }
 
+/// The name of the cache file, where there is one.
+fn name_of(cache: &Option<LocalPath>) -> Option<&str> {
+    match cache {
+        Some(path) => Some(path.as_str()),
+        None => None,
+    }
+}
+
 /// Runs a shell over the outside of this machine; the bytes that go over its links are counted there.
 fn run_over<H: Threads + Wait + Sync>(
     handle: &H,
@@ -159,21 +167,21 @@ fn run_over<H: Threads + Wait + Sync>(
         command,
     } = options;
     drop(path);
-    let out = Outside {
-        screen: Person {
-            screen: HostScreen::new(rt.stderr(), rt.stdin()),
-            words: words_file(&rt),
-        },
-        folders: HostFolders::new(rt, process::id(rt.process())),
-        dialler: TcpDialler::new(rt, port, count),
-        clock: HostClock::new(rt),
-        rest: HostPause::new(rt),
-    };
     let asked = ShellAsked {
         links,
         cache,
         quiet,
         command,
+    };
+    let out = Outside {
+        screen: Person {
+            screen: HostScreen::new(rt.stderr(), rt.stdin()),
+            words: words_file(&rt),
+        },
+        folders: HostFolders::new(rt, process::id(rt.process()), name_of(&asked.cache)),
+        dialler: TcpDialler::new(rt, port, count),
+        clock: HostClock::new(rt),
+        rest: HostPause::new(rt),
     };
     let mut source = StreamSource::new(ToldReader::new(rt, rt.stdin()));
     let mut sink = StreamSink::new(ToldWriter::new(rt, rt.stdout()));

@@ -28,7 +28,7 @@ use last_words::counts::Done;
 use lb_base::streams::{StreamSink, StreamSource};
 use lbfs_run::outside::Outside;
 use lbfs_run::run::status_of;
-use program_words::asked::{Asked, ServeOptions};
+use program_words::asked::{Asked, ServeOptions, StorePath};
 use program_words::front::{Front, ShareOptions, front_of, share_words};
 use program_words::refusal::refusal;
 use program_words::words::asked_of;
@@ -141,6 +141,30 @@ fn served(alloc: Global, words: &[String]) -> Result<Served, AllocError> {
     }
 }
 
+/// A path as text of its own, where there is one.
+fn text_of(alloc: Global, path: &Option<StorePath>) -> Result<Option<String>, AllocError> {
+    match path {
+        Some(path) => Ok(Some(String::from_str(alloc, path.as_str())?)),
+        None => Ok(None),
+    }
+}
+
+/// The name of a mount's cache file, where the words have one.
+fn cache_of(alloc: Global, words: &[String]) -> Result<Option<String>, AllocError> {
+    match asked_of(alloc, words)? {
+        Some(Asked::Mount(options)) => text_of(alloc, &options.cache),
+        _ => Ok(None),
+    }
+}
+
+/// The files of the folder that the program runs in.
+fn files_for(rt: HostRuntime, words: &[String]) -> Result<HostFiles<HostRuntime>, AllocError> {
+    match cache_of(rt.alloc(), words) {
+        Ok(cache) => Ok(HostFiles::new(rt, process::id(rt.process()), cache)),
+        Err(AllocError) => Err(AllocError),
+    }
+}
+
 /// Has a store load what will be served, by threads, before a run asks for it.
 fn load_ahead<H: Threads + Sync>(
     handle: &H,
@@ -183,6 +207,9 @@ fn run<H: Threads + Wait + Sync>(
     words: &[String],
     counting: Counting,
 ) -> ExitCode {
+    let Ok(files) = files_for(rt, words) else {
+        return starved(&rt);
+    };
     let Ok((options, serving, more)) = served(rt.alloc(), words) else {
         return starved(&rt);
     };
@@ -196,7 +223,7 @@ fn run<H: Threads + Wait + Sync>(
         source: StreamSource::new(ToldReader::new(rt, rt.stdin())),
         sink: StreamSink::new(ToldWriter::new(rt, rt.stdout())),
         store: CountedStore::new(handle, ToldStore::new(rt, store, more), changes),
-        files: HostFiles::new(rt, process::id(rt.process())),
+        files,
         network: CountedNetwork::new(handle, network, connections),
         clock: clock_for(rt, options.is_some()),
         rest: HostRest::new(rt),
