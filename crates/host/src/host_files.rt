@@ -14,10 +14,10 @@ use lb_base::streams::StreamSource;
 use limits::FILE_MOST;
 use links::files::{Files, FilesError};
 use std::alloc::Global;
-use std::fs;
 use std::fs::OpenFile;
 use std::io::{ErrorKind, Read};
 use std::rt::Files as HostDisk;
+use std::{fs, io};
 
 /// The files of the folder that the program runs in. They tell nothing of bytes.
 #[derive(Drop)]
@@ -64,24 +64,72 @@ fn open_regular<R: HostDisk + Eprint>(rt: &R, name: &str) -> Result<R::File, Fai
     }
 }
 
-/// The bytes of an open file, where it has at most `FILE_MOST`.
-fn read_open<F: OpenFile + Read + Drop>(alloc: Global, file: F) -> Result<Bytes, FilesError>
+/// A file that tells why it can't be read.
+#[derive(Drop)]
+struct ToldFile<'a, R, F> {
+    rt: &'a R,
+    name: &'a str,
+    file: F,
+}
+
+impl<'a, R: Eprint, F: Read> Read for ToldFile<'a, R, F> {
+    ghost remaining = { λ r. F.remaining r.file };
+
+    fn read(&mut self, buf: &mut [u8]) -> io::Result<usize> {
+        match self.file.read(buf) {
+            Err(why) if why.kind() != ErrorKind::Interrupted => {
+                let name = self.name;
+                tell(self.rt, &FileNote::Read { name, why });
+                Err(why)
+            }
+            other => other,
+        }
+    }
+}
+
+/// The bytes that come from a file, of which there may be at most `FILE_MOST`.
+fn read_from<R: Eprint, F: Read + Drop>(
+    rt: &R,
+    alloc: Global,
+    name: &str,
+    file: F,
+) -> Result<Bytes, FilesError>
     ensures within { IfOk result (λ bytes. length bytes ≤ FILE_MOST) }
     ensures big { (len : ℕ) → result ≡ Err (errors.TooBig len) → FILE_MOST < len }
 {
-    let Ok(facts) = file.metadata() else {
-        return Err(FilesError::Failed);
-    };
-    let len = facts.len();
-    if FILE_MOST < len {
-        return Err(FilesError::TooBig { len });
-    }
-    let mut source = StreamSource::new(file);
+    let mut source = StreamSource::new(ToldFile { rt, name, file });
     match read_all(alloc, FILE_MOST as usize, &mut source) {
         Ok(bytes) => Ok(Items::from_vec(bytes)),
         Err(ReadError::Memory) => Err(FilesError::Memory),
-        Err(ReadError::Fault | ReadError::TooLong) => Err(FilesError::Failed),
+        Err(ReadError::Fault) => Err(FilesError::Failed),
+        Err(ReadError::TooLong) => {
+            tell(rt, &FileNote::Changed { name });
+            Err(FilesError::Failed)
+        }
     }
+}
+
+/// The bytes of an open file, where it has at most `FILE_MOST`.
+fn read_open<R: Eprint, F: OpenFile + Read + Drop>(
+    rt: &R,
+    alloc: Global,
+    name: &str,
+    file: F,
+) -> Result<Bytes, FilesError>
+    ensures within { IfOk result (λ bytes. length bytes ≤ FILE_MOST) }
+    ensures big { (len : ℕ) → result ≡ Err (errors.TooBig len) → FILE_MOST < len }
+{
+    let len = match file.metadata() {
+        Ok(facts) => facts.len(),
+        Err(why) => {
+            tell(rt, &FileNote::Read { name, why });
+            return Err(FilesError::Failed);
+        }
+    };
+    if FILE_MOST < len {
+        return Err(FilesError::TooBig { len });
+    }
+    read_from(rt, alloc, name, file)
 }
 
 /// The bytes of a file, where it has at most `FILE_MOST`.
@@ -90,7 +138,7 @@ fn read_file<R: HostDisk + Eprint>(rt: &R, alloc: Global, name: &str) -> Result<
     ensures big { (len : ℕ) → result ≡ Err (errors.TooBig len) → FILE_MOST < len }
 {
     match open_regular(rt, name) {
-        Ok(file) => read_open(alloc, file),
+        Ok(file) => read_open(rt, alloc, name, file),
         Err(Failed) => Err(FilesError::Failed),
     }
 }

@@ -23,6 +23,8 @@ pub enum FileNote<'a> {
     Read { name: &'a str, why: io::Error },
     #[error("{name} is no regular file")]
     NotRegular { name: &'a str },
+    #[error("{name} changed while it was read")]
+    Changed { name: &'a str },
     #[error("{name} isn't taken for a cache file, and stays as it is \
          (name another one, or remove it)")]
     Left { name: &'a str },
