@@ -1,6 +1,8 @@
 pub mod Counting
+pub mod Fetched
 pub mod Lined
 pub mod Removed
 pub mod Sparing
+pub mod Stored
 pub mod Touching
 pub mod Walking

@@ -13,7 +13,7 @@ use Rattle.shell_commands.specs.Placing.{is_in_the_way, is_taken, OverIf, Places
 use Rattle.shell_commands.specs.Visiting.{is_removal, PutsAlone, Spares, Spares.unasked, Spares.asked, SparesFor, SparesPut, SparesPut.stores, SparesPut.looks}
 use Rattle.shell_commands.specs.declared.placing.Place.{Place}
 
-apart : true ≡ false → ⊥
+pub apart : true ≡ false → ⊥
 apart e = cc
 
 pub only_asked : {R : Type 0} (asks : R → Command → Answer → R → Type 0) (d : Deed) (path : List (List ℕ)) (a : Answer) (old new : R) → is_removal d ≡ false → AsksOn asks old (command_on d path) a new → Spares asks path old new

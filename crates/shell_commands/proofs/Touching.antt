@@ -1,5 +1,5 @@
 -- What tasks leave alone, and which come of them.
-use Rattle.std.proofs.Common.{◌≡◌, ◌⊎◌, refl, sym, subst, ap, ◌∙◌, ℕ, ◌+◌, List, [], ◌∷◌, ◌++◌, slice_get, Bool, true, false, cond, bytes_eq, Option, Some, None, Result, Ok, Err, OnOk, inl, inr, ◌||◌}
+use Rattle.std.proofs.Common.{◌≡◌, ◌⊎◌, refl, sym, subst, ap, ◌∙◌, ℕ, ◌+◌, List, [], ◌∷◌, ◌++◌, slice_get, Bool, true, false, cond, bytes_eq, Option, Some, None, Result, Ok, Err, OnOk, inr, ◌||◌}
 use Rattle.command_text.specs.declared.command.Command.{Command}
 use Rattle.shell_words.specs.Local.{below}
 use Rattle.shell_words.specs.Temporary.{is_carried, is_temporary}
@@ -23,7 +23,7 @@ join t [] ys h k = k
 join t (x ∷ xs) ys h k = (h.0, join t xs ys h.1 k)
 
 put_of : (local : List ℕ) (path : List (List ℕ)) (s s' : Storing) (name : List ℕ) (b : Bool) → (s'.deletes ≡ true → s.deletes ≡ true) → is_carried name ≡ b → AllCome (task.Put local path s) (cond b (task.Put (below local name) (path ++ name ∷ []) s' ∷ []) [])
-put_of local path s s' name true may is = ((may, inr (name, is, refl, refl)), tt)
+put_of local path s s' name true may is = (inr (may, (name, is, refl, refl)), tt)
 put_of local path s s' name false may is = tt
 
 pub puts_come : (local : List ℕ) (path : List (List ℕ)) (s s' : Storing) → (s'.deletes ≡ true → s.deletes ≡ true) → (names : List (List ℕ)) → AllCome (task.Put local path s) (put_tasks local path s' names)

@@ -1,4 +1,7 @@
 pub mod Doing
+pub mod Getting
 pub mod Lines
 pub mod Placing
+pub mod Putting
+pub mod Tasks
 pub mod Visiting

@@ -1,8 +1,8 @@
 -- Where a folder of the host goes, over what a client does at any command (`asks`).
-use Rattle.std.specs.Prelude.{◌≡◌, ℕ, ◌==◌, ◌&&◌, List, [], ◌∷◌, Bool, true, false}
+use Rattle.std.specs.Prelude.{◌≡◌, ℕ, ◌==◌, ◌&&◌, List, [], ◌∷◌, ◌++◌, Bool, true, false, Option, Some, None, codes}
 use Rattle.command_text.specs.declared.command.Command.{Command}
 use Rattle.shell_walks.specs.Asking.{command_on, AsksOn}
-use Rattle.shell_walks.specs.Telling.{why_of}
+use Rattle.shell_walks.specs.Telling.{note_line, path_text, why_of}
 use Rattle.shell_walks.specs.declared.asking.Deed.TheVariants as deed
 use Rattle.shell_walks.specs.declared.remote.Answer.{Answer}
 use Rattle.shell_walks.specs.declared.remote.Answer.TheVariants as answer
@@ -88,3 +88,30 @@ pub record PlacesOver {R : Type 0} (asks : R → Command → Answer → R → Ty
   pub between : R
   pub places : Places asks old path before between
   pub goes_on : OverIf asks between (is_in_the_way before && deletes) path before p new
+
+-- ---- what came of it
+
+-- why there is none, if there is none
+abbrev pub no_place : Place → Option Why
+no_place (place.None w) = Some w
+no_place p = None
+
+abbrev pub is_new : Place → Bool
+is_new place.There = false
+is_new p = true
+
+abbrev pub made_news : (path : List (List ℕ)) → Place → List ℕ
+made_news path place.New = note_line (path_text path) (codes "made")
+made_news path place.Instead = note_line (path_text path) (codes "removed") ++ note_line (path_text path) (codes "made")
+made_news path p = []
+
+-- a sync says it
+abbrev pub place_news : (path : List (List ℕ)) → (is_said : Bool) → Place → List ℕ
+place_news path true p = made_news path p
+place_news path false p = []
+
+-- ---- a listing, where one is wanted
+
+abbrev pub ListsIf : {R : Type 0} → (asks : R → Command → Answer → R → Type 0) → R → (is_wanted : Bool) → List (List ℕ) → Answer → R → Type 0
+ListsIf asks old true path a new = AsksOn asks old (command_on deed.List path) a new
+ListsIf asks old false path a new = (new ≡ old) × (a ≡ answer.Done)

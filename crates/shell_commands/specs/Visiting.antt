@@ -1,7 +1,7 @@
 -- What a task leaves alone: it looks at, writes and makes the one path of the host's that it is about, and the tasks that come of it are about the names in it. Nothing goes at the server but where it may.
-use Rattle.std.specs.Prelude.{◌≡◌, ◌⊎◌, ℕ, ◌==◌, List, [], ◌∷◌, ◌++◌, Bool, true, false, Option, Result}
+use Rattle.std.specs.Prelude.{◌≡◌, ◌⊎◌, ℕ, ◌==◌, List, [], ◌∷◌, ◌++◌, Bool, true, false, Option, Result, codes, if◌then◌else◌}
 use Rattle.command_text.specs.declared.command.Command.{Command}
-use Rattle.shell_words.specs.Local.{below}
+use Rattle.shell_words.specs.Local.{below, is_component}
 use Rattle.shell_words.specs.Temporary.{is_carried, is_temporary}
 use Rattle.shell_words.specs.Quoting.{quoted}
 use Rattle.shell_walks.specs.Asking.{command_on, AsksOn}
@@ -15,11 +15,11 @@ use Rattle.shell_walks.specs.declared.fetching.Got.{Got}
 use Rattle.shell_walks.specs.declared.fetching.Got.TheVariants as got
 use Rattle.shell_walks.specs.declared.folder.Kind.{Kind}
 use Rattle.shell_walks.specs.declared.folder.LocalFault.{LocalFault}
+use Rattle.shell_walks.specs.declared.folder.LocalFault.TheVariants as faults
 use Rattle.shell_walks.specs.declared.remote.Answer.{Answer}
 use Rattle.shell_walks.specs.declared.remote.Why.{Why}
 use Rattle.shell_walks.specs.declared.remote.Why.TheVariants as why
 use Rattle.shell_walks.specs.declared.removing.Gone.{Gone}
-use Rattle.shell_walks.specs.declared.removing.Removal.{Removal}
 use Rattle.shell_walks.specs.declared.tasks.Storing.{Storing}
 use Rattle.shell_walks.specs.declared.tasks.Task.{Task}
 use Rattle.shell_walks.specs.declared.tasks.Task.TheVariants as task
@@ -29,11 +29,11 @@ use Rattle.shell_commands.specs.declared.visiting.Visited.{Visited}
 
 -- a file of so many bytes was dealt with
 abbrev pub one_file : ℕ → Visited
-one_file n = record { more = []; note = []; news = []; files = 1; bytes = n; is_off = false }
+one_file n = record { more = []; note = []; news = []; files = 1; bytes = n; is_off = false; left = 0 }
 
 -- nothing was done, and this is said
 abbrev pub noted : (note : List ℕ) → (is_off : Bool) → Visited
-noted note off = record { more = []; note = note; news = []; files = 0; bytes = 0; is_off = off }
+noted note off = record { more = []; note = note; news = []; files = 0; bytes = 0; is_off = off; left = 0 }
 
 -- of a path of the server's
 abbrev pub said_of : (path : List (List ℕ)) → Why → (words : List ℕ) → Visited
@@ -46,9 +46,28 @@ refused_as path w = said_of path w (why_text w)
 abbrev pub faulty_as : (local : List ℕ) → LocalFault → Visited
 faulty_as local fault = noted (note_line (quoted local) (fault_text fault)) false
 
--- of what went with a path, with the tasks that come behind it
-abbrev pub removed_as : List Task → Removal → Visited
-removed_as more r = record { more = more; note = r.note; news = r.news; files = 0; bytes = 0; is_off = r.is_off }
+-- of what went with a path, and of what is left of it, with the tasks that come behind it
+abbrev pub removed_as : List Task → Gone → Visited
+removed_as more g = record { more = more; note = g.said.note; news = g.said.news; files = 0; bytes = 0; is_off = g.said.is_off; left = g.left }
+
+-- these tasks come, and this is said
+abbrev pub leads : List Task → (note news : List ℕ) → (is_off : Bool) → Visited
+leads more note news off = record { more = more; note = note; news = news; files = 0; bytes = 0; is_off = off; left = 0 }
+
+-- ---- names that don't go between a folder and a directory
+
+abbrev pub name_fault : (name : List ℕ) → LocalFault
+name_fault name = if is_temporary name then faults.LeftOver else if is_component name then faults.NotText else faults.BadName
+
+abbrev pub bad_name : (folder name : List ℕ) → List ℕ
+bad_name folder name = note_line (quoted (folder ++ codes "/" ++ name)) (fault_text (name_fault name))
+
+abbrev pub bad_more : (folder name : List ℕ) → List ℕ
+bad_more folder name = if is_carried name then [] else bad_name folder name
+
+abbrev pub bad_names : (folder : List ℕ) → (names : List (List ℕ)) → List ℕ
+bad_names folder [] = []
+bad_names folder (name ∷ names) = bad_more folder name ++ bad_names folder names
 
 -- NFS3ERR_ISDIR
 abbrev pub is_directory_for : Why → Bool
@@ -76,12 +95,7 @@ PutsAlone asks content offers old path s bytes new = (a : Answer) × PutsBytes a
 pub record Removed {R : Type 0} (asks : R → Command → Answer → R → Type 0) (old : R) (path : List (List ℕ)) (v : Visited) (new : R) : Type 0 where
   pub gone : Gone
   pub goes : RemovesAll asks old path new gone
-  pub is_told : v ≡ removed_as v.more gone.said
-
-abbrev pub RemovedFor : {R : Type 0} → (asks : R → Command → Answer → R → Type 0) → R → Task → Visited → R → Type 0
-RemovedFor asks old (task.Put local path s) v new = Unit {0}
-RemovedFor asks old (task.Get path local deep id) v new = Unit {0}
-RemovedFor asks old (task.Remove path) v new = Removed asks old path v new
+  pub is_told : v ≡ removed_as v.more gone
 
 -- ---- which files are counted
 
@@ -146,9 +160,13 @@ SparesFor asks content offers (task.Remove path) old new = Unit {0}
 abbrev pub IsNamedIn : (local : List ℕ) → (path : List (List ℕ)) → (local' : List ℕ) → (path' : List (List ℕ)) → Type 0
 IsNamedIn local path local' path' = (name : List ℕ) × (is_carried name ≡ true) × (local' ≡ below local name) × (path' ≡ path ++ name ∷ [])
 
+-- the same once more, which may remove nothing then; so it comes once
+abbrev pub IsOnceMore : (local : List ℕ) → (path : List (List ℕ)) → Storing → (local' : List ℕ) → (path' : List (List ℕ)) → Storing → Type 0
+IsOnceMore local path s local' path' s' = (local' ≡ local) × (path' ≡ path) × (s.deletes ≡ true) × (s'.deletes ≡ false)
+
 -- what removes, or may, comes of what may alone
 abbrev pub ComesOf : Task → Task → Type 0
-ComesOf (task.Put local path s) (task.Put local' path' s') = (s'.deletes ≡ true → s.deletes ≡ true) × (((local' ≡ local) × (path' ≡ path)) ⊎ IsNamedIn local path local' path')
+ComesOf (task.Put local path s) (task.Put local' path' s') = IsOnceMore local path s local' path' s' ⊎ ((s'.deletes ≡ true → s.deletes ≡ true) × IsNamedIn local path local' path')
 ComesOf (task.Put local path s) (task.Remove path') = (s.deletes ≡ true) × (name : List ℕ) × (is_temporary name ≡ false) × (path' ≡ path ++ name ∷ [])
 ComesOf (task.Get path local deep id) (task.Get path' local' deep' id') = IsNamedIn local path local' path'
 ComesOf t t' = ⊥

@@ -3,7 +3,9 @@
 #![tactic(auto)]
 
 pub mod doing;
+mod getting;
 pub mod placing;
+mod putting;
 pub mod shell;
 mod unfit;
 pub mod visiting;

@@ -1,15 +1,13 @@
-//! Where a folder of the host goes: its directory is made, where there is none (`specs/Placing.antt`); and the folder
-//! of a directory that is fetched.
+//! Where a folder of the host goes: its directory is made, where there is none (`specs/Placing.antt`).
 
-ghost use Rattle.std.specs.Prelude.{◌≡◌, ◌&&◌, IfOk, OnOk};
+ghost use Rattle.std.specs.Prelude.{◌≡◌, ◌&&◌, IfOk};
 ghost use Rattle.shell_commands.specs.Placing.{there_as, LooksThere, is_taken, made_as, PlacesIf, MakesPlace, Places, is_in_the_way, instead_as, MakesInstead, OverIf, PlacesOver};
-ghost use Rattle.shell_commands.specs.Visiting.{Spares, Touches};
+ghost use Rattle.shell_commands.specs.Placing.{is_new, ListsIf, made_news, no_place, place_news};
+ghost use Rattle.shell_commands.specs.declared.placing.Place.TheVariants as places;
 
 use lb_base::items::{Bytes, Items, Name};
 use shell_walks::asking::{Deed, ask_on};
-use shell_walks::folder::{Folder, Kind, LocalFault};
 use shell_walks::remote::{Answer, Remote, Why};
-use shell_walks::tasks::Storing;
 use shell_walks::telling::{MADE, REMOVED, path_line, why_of};
 use std::alloc::{AllocError, Global};
 
@@ -178,7 +176,7 @@ pub(crate) fn list_if<R: Remote>(
     is_wanted: bool,
     path: &[Name],
 ) -> Result<Answer, AllocError>
-    ensures { OnOk result (Spares R.asks path.now remote.old remote.new) }
+    ensures { IfOk result (λ a. ListsIf R.asks remote.old is_wanted path.now a remote.new) }
 {
     if is_wanted {
         ask_on(alloc, remote, Deed::List, path)
@@ -187,38 +185,56 @@ pub(crate) fn list_if<R: Remote>(
     }
 }
 
-/// What a sync says of a directory that was made.
-pub fn place_news(
-    alloc: Global,
-    path: &[Name],
-    storing: Storing,
-    place: Place,
-) -> Result<Bytes, AllocError> {
-    let mut news = Items::new(alloc);
-    if !storing.changed_only {
-        return Ok(news);
+/// Why there is no directory, if there is none.
+pub(crate) fn no_place(place: Place) -> Option<Why>
+    ensures { result ≡ no_place place }
+{
+    match place {
+        Place::None(why) => Some(why),
+        _ => None,
     }
-    if matches!(place, Place::Instead) {
-        let line = path_line(alloc, path, REMOVED)?;
-        news.extend_from_slice(line.as_slice())?;
-    }
-    if matches!(place, Place::New | Place::Instead) {
-        let line = path_line(alloc, path, MADE)?;
-        news.extend_from_slice(line.as_slice())?;
-    }
+}
+
+/// Whether nothing is in a directory yet.
+pub(crate) fn is_new(place: Place) -> bool
+    ensures { result ≡ is_new place }
+{
+    !matches!(place, Place::There)
+}
+
+/// That a directory was made, in the place of a file.
+fn instead_news(alloc: Global, path: &[Name]) -> Result<Bytes, AllocError>
+    ensures { IfOk result (λ news. news ≡ made_news path.now places.Instead) }
+{
+    let mut news = path_line(alloc, path, REMOVED)?;
+    let made = path_line(alloc, path, MADE)?;
+    news.extend_from_slice(made.as_slice())?;
     Ok(news)
 }
 
-/// A folder is there for a directory, or why there is none.
-pub(crate) fn make_local<F: Folder>(folder: &mut F, local: &str) -> Result<(), LocalFault>
-    ensures { Touches F.finds F.reads F.writes F.lists F.makes F.tries F.clears local.now folder.old folder.new }
+/// What is said of a directory that was made.
+fn made_news(alloc: Global, path: &[Name], place: Place) -> Result<Bytes, AllocError>
+    ensures { IfOk result (λ news. news ≡ made_news path.now place) }
 {
-    match folder.make_folder(local) {
-        Err(LocalFault::Exists) => match folder.kind(local, true) {
-            Kind::Folder => Ok(()),
-            Kind::Hidden(fault) => Err(fault),
-            _ => Err(LocalFault::NotFolder),
-        },
-        made => made,
+    match place {
+        Place::New => path_line(alloc, path, MADE),
+        Place::Instead => instead_news(alloc, path),
+        _ => Ok(Items::new(alloc)),
+    }
+}
+
+/// What a sync says of a directory that was made.
+pub(crate) fn place_news(
+    alloc: Global,
+    path: &[Name],
+    is_said: bool,
+    place: Place,
+) -> Result<Bytes, AllocError>
+    ensures { IfOk result (λ news. news ≡ place_news path.now is_said place) }
+{
+    if is_said {
+        made_news(alloc, path, place)
+    } else {
+        Ok(Items::new(alloc))
     }
 }

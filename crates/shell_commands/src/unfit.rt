@@ -1,5 +1,8 @@
 //! Names that don't go between a folder and a directory: what is said of them.
 
+ghost use Rattle.std.specs.Prelude.{◌≡◌, ◌++◌, IfOk, OnOk};
+ghost use Rattle.shell_commands.specs.Visiting.{bad_more, bad_name, bad_names, name_fault};
+
 use lb_base::items::{Bytes, Items, Name};
 use shell_walks::folder::LocalFault;
 use shell_walks::telling::{fault_words, note_line};
@@ -9,7 +12,9 @@ use shell_words::temporary::{carried_name, is_temporary};
 use std::alloc::{AllocError, Global};
 
 /// Why a name goes nowhere.
-fn name_fault(name: &[u8]) -> LocalFault {
+fn name_fault(name: &[u8]) -> LocalFault
+    ensures { result ≡ name_fault name.now }
+{
     if is_temporary(name) {
         LocalFault::LeftOver
     } else if is_component(name) {
@@ -20,7 +25,9 @@ fn name_fault(name: &[u8]) -> LocalFault {
 }
 
 /// What is said of a name in a folder that goes nowhere.
-fn bad_name(alloc: Global, folder: &[u8], name: &[u8]) -> Result<Bytes, AllocError> {
+fn bad_name(alloc: Global, folder: &[u8], name: &[u8]) -> Result<Bytes, AllocError>
+    ensures { IfOk result (λ text. text ≡ bad_name folder.now name.now) }
+{
     let mut path = Items::copy_of(alloc, folder)?;
     path.extend_from_slice(b"/")?;
     path.extend_from_slice(name)?;
@@ -28,14 +35,26 @@ fn bad_name(alloc: Global, folder: &[u8], name: &[u8]) -> Result<Bytes, AllocErr
     note_line(alloc, about.as_slice(), fault_words(name_fault(name)))
 }
 
+/// What is said of a name, where it goes nowhere, goes behind what is there.
+fn put_bad(alloc: Global, out: &mut Bytes, folder: &[u8], name: &[u8]) -> Result<(), AllocError>
+    ensures { OnOk result (out.new ≡ out.old ++ bad_more folder.now name.now) }
+{
+    match carried_name(name) {
+        Some(_) => Ok(()),
+        None => {
+            let line = bad_name(alloc, folder, name)?;
+            out.extend_from_slice(line.as_slice())
+        }
+    }
+}
+
 /// What is said of the names in a folder that go nowhere, a line for each.
-pub(crate) fn bad_names(alloc: Global, folder: &[u8], names: &[Name]) -> Result<Bytes, AllocError> {
+pub(crate) fn bad_names(alloc: Global, folder: &[u8], names: &[Name]) -> Result<Bytes, AllocError>
+    ensures { IfOk result (λ text. text ≡ bad_names folder.now names.now) }
+{
     let mut note = Items::new(alloc);
     for name in names {
-        if carried_name(name.as_slice()).is_none() {
-            let line = bad_name(alloc, folder, name.as_slice())?;
-            note.extend_from_slice(line.as_slice())?;
-        }
+        put_bad(alloc, &mut note, folder, name.as_slice())?;
     }
     Ok(note)
 }
