@@ -5,4 +5,3 @@ pub mod Removed
 pub mod Sparing
 pub mod Stored
 pub mod Touching
-pub mod Walking

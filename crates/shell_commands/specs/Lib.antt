@@ -1,4 +1,3 @@
-pub mod Doing
 pub mod Getting
 pub mod Lines
 pub mod Placing

@@ -16,7 +16,7 @@ use Rattle.shell_walks.specs.declared.tasks.Storing.{Storing}
 use Rattle.shell_walks.specs.declared.tasks.Task.{Task}
 use Rattle.shell_walks.specs.declared.tasks.Task.TheVariants as task
 use Rattle.shell_walks.specs.declared.told.Told.{Told}
-use Rattle.shell_commands.specs.Doing.{is_dir_told, made_told, Moves, OnPath}
+use Rattle.path_commands.specs.Doing.{is_dir_told, made_told, Moves, OnPath}
 use Rattle.shell_commands.specs.declared.shell.Named.{Named}
 use Rattle.shell_commands.specs.declared.shell.Named.TheVariants as named
 use Rattle.shell_commands.specs.declared.shell.Went.{Went}

@@ -2,7 +2,6 @@
 //! (`shell_walks`). `specs/Visiting.antt` says what a task leaves alone.
 #![tactic(auto)]
 
-pub mod doing;
 mod getting;
 pub mod placing;
 mod putting;

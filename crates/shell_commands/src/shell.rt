@@ -5,9 +5,9 @@ ghost use Rattle.std.specs.Prelude.{◌≡◌, ◌++◌, codes, IfOk, OnOk};
 ghost use Rattle.shell_walks.specs.Telling.{fine, path_text};
 ghost use Rattle.shell_commands.specs.Lines.{of_word, mistaken_as, operand_of, Names, gone_told, gone_to, Goes, MovesTo, IsGet, IsPut, put_storing, sync_storing, DoesPath, RunsNamed, Runs};
 
-use crate::doing::{is_dir_told, is_directory, made_told, make_all, move_to, on_path};
 use command_text::path::Path;
 use lb_base::items::{Items, Name};
+use path_commands::doing::{is_dir_told, is_directory, made_told, make_all, move_to, on_path};
 use shell_walks::asking::{Deed, ask_on, is_status};
 use shell_walks::folder::{Folder, Kind, LocalFault};
 use shell_walks::remote::{Answer, Remote};

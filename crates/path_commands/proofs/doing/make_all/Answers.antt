@@ -2,8 +2,8 @@ use Rattle.std.proofs.Common.{◌≡◌, refl, sym, subst, ap, ◌∙◌, ℕ, �
 use Rattle.std.proofs.lemmas.Result.{IfOk-weaker}
 use Rattle.shell_walks.specs.Telling.{refused_told}
 use Rattle.shell_walks.specs.declared.remote.Why.{Why}
-use Rattle.shell_commands.specs.Doing.{Makes, Makes.none, Makes.one, MakesAll.stopped, MakesAll.made}
-use Rattle.shell_commands.proofs.doing.make_all.Goals as goal
+use Rattle.path_commands.specs.Doing.{Makes, Makes.none, Makes.one, MakesAll.stopped, MakesAll.made}
+use Rattle.path_commands.proofs.doing.make_all.Goals as goal
 
 pub loop-end-init : goal.loop-end-init
 loop-end-init g c = none _ _ refl refl

@@ -1,8 +1,8 @@
 use Rattle.std.proofs.Common.{refl, ap, ◌∙◌, ℕ, List, arith}
 use Rattle.shell_walks.specs.Telling.{fine}
-use Rattle.shell_commands.specs.Doing.{Longs.none}
-use Rattle.shell_commands.proofs.Walking.{long_on}
-use Rattle.shell_commands.proofs.doing.longs.Goals as goal
+use Rattle.path_commands.specs.Doing.{Longs.none}
+use Rattle.path_commands.proofs.Walking.{long_on}
+use Rattle.path_commands.proofs.doing.longs.Goals as goal
 
 pub loop-name-init : goal.loop-name-init
 loop-name-init g c = none _ _ _ refl (c.fine-told.ensures ∙ ap (λ (t : List ℕ). fine t) c.new.ensures) refl

@@ -1,5 +1,5 @@
 use Rattle.std.proofs.Common.{length}
-use Rattle.shell_commands.proofs.doing.+last_of.Given as goal
+use Rattle.path_commands.proofs.doing.+last_of.Given as goal
 
 abbrev pub decreases-last_of : goal.decreases-last_of
 decreases-last_of l = length l.rest.now

@@ -4,8 +4,8 @@ ghost use Rattle.std.specs.Prelude.{◌≡◌, ◌∷◌, ◌++◌, [], IfOk, On
 ghost use Rattle.shell_walks.specs.Asking.{command_on, AsksOn};
 ghost use Rattle.shell_walks.specs.Telling.{left_text, notes};
 ghost use Rattle.shell_walks.specs.declared.asking.Deed.TheVariants as deeds;
-ghost use Rattle.shell_commands.specs.Doing.{Does, Stats, RemovesFile, LooksWhether, is_dir_told, file_text, file_told, LooksAt, is_file, ListsFile, with_long, Longs, ListsOn, Lists, is_there};
-ghost use Rattle.shell_commands.specs.Doing.{made_told, MakesAll, RemovesAll, last_of, named_in, place_of, is_refused, at_fault, LooksBack, TellsRename, Renames, Moves, OnPath};
+ghost use Rattle.path_commands.specs.Doing.{Does, Stats, RemovesFile, LooksWhether, is_dir_told, file_text, file_told, LooksAt, is_file, ListsFile, with_long, Longs, ListsOn, Lists, is_there};
+ghost use Rattle.path_commands.specs.Doing.{made_told, MakesAll, RemovesAll, last_of, named_in, place_of, is_refused, at_fault, LooksBack, TellsRename, Renames, Moves, OnPath};
 
 use command_text::path::Path;
 use lb_base::items::{Bytes, Items, Name};

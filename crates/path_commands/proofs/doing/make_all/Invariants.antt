@@ -1,5 +1,5 @@
-use Rattle.shell_commands.specs.Doing.{Makes}
-use Rattle.shell_commands.proofs.doing.make_all.Given as goal
+use Rattle.path_commands.specs.Doing.{Makes}
+use Rattle.path_commands.proofs.doing.make_all.Given as goal
 
 abbrev pub invariant-loop-end : goal.invariant-loop-end
 invariant-loop-end g l = Makes g.R.Remote.asks l.fn.remote l.path l.end l.remote

@@ -6,7 +6,7 @@ use Rattle.shell_walks.specs.Asking.{command_on, AsksOn}
 use Rattle.shell_walks.specs.declared.asking.Deed.TheVariants as deed
 use Rattle.shell_walks.specs.declared.remote.Answer.{Answer}
 use Rattle.shell_walks.specs.declared.told.Told.{Told}
-use Rattle.shell_commands.specs.Doing.{Longs, Longs.one, with_long}
+use Rattle.path_commands.specs.Doing.{Longs, Longs.one, with_long}
 
 one_more : (n : ℕ) → suc n ≡ n + 1
 one_more n = omega arith

@@ -1,0 +1,5 @@
+//! What a command of a shell about paths of the server comes to, over what is done with one path (`shell_walks`):
+//! `specs/Doing.antt`. Which path a line's words name is `shell_commands`.
+#![tactic(auto)]
+
+pub mod doing;
