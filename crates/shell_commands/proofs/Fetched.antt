@@ -1,6 +1,7 @@
 -- What follows of what a fetching comes to: which tasks come, which files are counted, and which path is touched.
 use Rattle.std.proofs.Common.{◌≡◌, refl, sym, subst, ℕ, List, [], Bool, true, false, Option, Result, Ok, Err, cond}
 use Rattle.command_text.specs.declared.command.Command.{Command}
+use Rattle.shell_walks.specs.Telling.{why_of}
 use Rattle.shell_walks.specs.declared.fetching.Got.{Got}
 use Rattle.shell_walks.specs.declared.fetching.Got.TheVariants as got
 use Rattle.shell_walks.specs.declared.folder.Kind.{Kind}
@@ -14,6 +15,7 @@ use Rattle.shell_walks.specs.declared.remote.Why.{Why}
 use Rattle.shell_walks.specs.declared.tasks.Task.{Task}
 use Rattle.shell_walks.specs.declared.tasks.Task.TheVariants as task
 use Rattle.shell_commands.specs.Getting.{ClearsIf, GetsAs, GetsAt, GetsElse, GetsFile, GetsIfDeep, GetsIfListed, GetsInto, GetsKind, is_here, MakesIf, misplaced, not_deep_as, not_into_as, Unlisted}
+use Rattle.shell_commands.specs.Placing.{is_no_directory}
 use Rattle.shell_commands.specs.Visiting.{AllCome, CountsGot, CountsGot.fetched, CountsGot.not_fetched, EndsGet, faulty_as, is_directory_for, RefusesGet, Touches}
 use Rattle.shell_commands.specs.declared.visiting.Visited.{Visited}
 use Rattle.shell_commands.proofs.Touching.{both, first_found, gets_come, gets_touch, only_cleared, only_found, only_made, only_read, stayed}
@@ -44,7 +46,7 @@ unlisted_fine asks old new t path local w v false k = none_fine t v _ k.1 refl r
 
 listed_fine : {R F : Type 0} (asks : R → Command → Answer → R → Type 0) (finds : F → List ℕ → Kind → F → Type 0) (makes : F → List ℕ → Result Unit LocalFault → F → Type 0) (clears : F → List ℕ → F → Type 0) (old new : R) (h h' : F) (path : List (List ℕ)) (local : List ℕ) (deep : Bool) (id : Option ℕ) (v : Visited) (a : Answer) → GetsIfListed asks finds makes clears old h a path local v new h' → Fine (task.Get path local deep id) v
 listed_fine asks finds makes clears old new h h' path local deep id v (answer.Names l) k = clear_fine clears k.1.between h' path local deep id l v k.1.made k.1.goes_on
-listed_fine asks finds makes clears old new h h' path local deep id v a k = unlisted_fine asks old new (task.Get path local deep id) path local _ v _ k.1
+listed_fine asks finds makes clears old new h h' path local deep id v a k = unlisted_fine asks old new (task.Get path local deep id) path local (why_of a) v (is_no_directory (why_of a)) k.1
 
 if_deep_fine : {R F : Type 0} (asks : R → Command → Answer → R → Type 0) (finds : F → List ℕ → Kind → F → Type 0) (makes : F → List ℕ → Result Unit LocalFault → F → Type 0) (clears : F → List ℕ → F → Type 0) (old new : R) (h h' : F) (path : List (List ℕ)) (local : List ℕ) (deep : Bool) (id : Option ℕ) (v : Visited) (b : Bool) → GetsIfDeep asks finds makes clears old h b path local v new h' → Fine (task.Get path local deep id) v
 if_deep_fine asks finds makes clears old new h h' path local deep id v true k = listed_fine asks finds makes clears k.between new h h' path local deep id v k.listing k.goes_on

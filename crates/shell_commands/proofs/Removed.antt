@@ -8,9 +8,9 @@ use Rattle.shell_walks.specs.declared.tasks.Task.{Task}
 use Rattle.shell_commands.specs.Visiting.{Removed, removed_as}
 use Rattle.shell_commands.specs.declared.visiting.Visited.{Visited}
 
-pub told_so : {R : Type 0} (asks : R → Command → Answer → R → Type 0) (old new : R) (path : List (List ℕ)) (v : Visited) (more : List Task) (g : Gone) → RemovesAll asks old path new g → v ≡ removed_as more g.said → Removed asks old path v new
+pub told_so : {R : Type 0} (asks : R → Command → Answer → R → Type 0) (old new : R) (path : List (List ℕ)) (v : Visited) (more : List Task) (g : Gone) → RemovesAll asks old path new g → v ≡ removed_as more g → Removed asks old path v new
 told_so asks old new path v more g h is = record {
   gone = g;
   goes = h;
-  is_told = is ∙ ap (λ (ts : List Task). removed_as ts g.said) (sym (ap (λ (w : Visited). w.more) is));
+  is_told = is ∙ ap (λ (ts : List Task). removed_as ts g) (sym (ap (λ (w : Visited). w.more) is));
 }

@@ -109,16 +109,16 @@ kind_counts asks content offers reads lists old new h h' local path s v (kinds.H
 -- ---- what stays
 
 else_asks : {R : Type 0} (asks : R → Command → Answer → R → Type 0) (old new : R) (local : List ℕ) (path : List (List ℕ)) (s : Storing) (a : Answer) (v : Visited) (b : Bool) → s.deletes ≡ false → (s.deletes && is_dir a) ≡ b → PutsElse asks old b local path s a v new → new ≡ old
-else_asks asks old new local path s a v true no e k = absurd (apart (sym (and_left s.deletes (is_dir a) e) ∙ no))
-else_asks asks old new local path s a v false no e k = k.0
+else_asks asks old new local path s a v true spared e k = absurd (apart (sym (and_left s.deletes (is_dir a) e) ∙ spared))
+else_asks asks old new local path s a v false spared e k = k.0
 
 after_asks : {R : Type 0} (asks : R → Command → Answer → R → Type 0) (old new : R) (local : List ℕ) (path : List (List ℕ)) (s : Storing) (n : ℕ) (a : Answer) (v : Visited) (b : Bool) → s.deletes ≡ false → PutsAfter asks old b local path s n a v new → new ≡ old
-after_asks asks old new local path s n a v true no k = k.0
-after_asks asks old new local path s n a v false no k = else_asks asks old new local path s a v (s.deletes && is_dir a) no refl k
+after_asks asks old new local path s n a v true spared k = k.0
+after_asks asks old new local path s n a v false spared k = else_asks asks old new local path s a v (s.deletes && is_dir a) spared refl k
 
 read_spares : {R : Type 0} (asks : R → Command → Answer → R → Type 0) (content : R → ℕ → List ℕ) (offers : R → List ℕ → R → Type 0) (old new : R) (local : List ℕ) (path : List (List ℕ)) (s : Storing) (v : Visited) (r : Result (List ℕ) LocalFault) → s.deletes ≡ false → PutsIfRead asks content offers old local path s r v new → SparesPut asks content offers old path s new
-read_spares {R = R} asks content offers old new local path s v (Ok bytes) no k = stores bytes (k.answer, subst (λ (x : R). PutsBytes asks content offers old path s bytes k.answer x) (sym (after_asks asks k.between new local path s (length bytes) k.answer v (is_kept s k.answer) no k.goes_on)) k.puts)
-read_spares asks content offers old new local path s v (Err fault) no k = looks (unasked new k.0)
+read_spares {R = R} asks content offers old new local path s v (Ok bytes) spared k = stores bytes (k.answer, subst (λ (x : R). PutsBytes asks content offers old path s bytes k.answer x) (sym (after_asks asks k.between new local path s (length bytes) k.answer v (is_kept s k.answer) spared k.goes_on)) k.puts)
+read_spares asks content offers old new local path s v (Err fault) spared k = looks (unasked new k.0)
 
 within_spares : {R : Type 0} (asks : R → Command → Answer → R → Type 0) (old new : R) (local : List ℕ) (path : List (List ℕ)) (s : Storing) (names : List (List ℕ)) (news : List ℕ) (v : Visited) (b : Bool) → PutsWithin asks old b local path s names news v new → Spares asks path old new
 within_spares asks old new local path s names news v true k = only_asked asks deed.List path k.listing old new refl k.lists
@@ -129,25 +129,25 @@ placed_spares asks old new p local path s names v (Some w) k = unasked new k.0
 placed_spares asks old new p local path s names v None k = within_spares asks old new local path (placed s (is_new p)) names _ v (is_compared (placed s (is_new p))) k
 
 unless_spares : {R : Type 0} (asks : R → Command → Answer → R → Type 0) (old new : R) (local : List ℕ) (path : List (List ℕ)) (s : Storing) (names : List (List ℕ)) (v : Visited) (a : Answer) → s.deletes ≡ false → PutsUnless asks old a local path s names v new → Spares asks path old new
-unless_spares asks old new local path s names v (answer.Names l) no k = unasked new k.0
-unless_spares asks old new local path s names v a no k = then_asked asks path old k.between new (places_over asks path s.deletes k.place old k.between no k.places) (placed_spares asks k.between new k.place local path s names v (no_place k.place) k.goes_on)
+unless_spares asks old new local path s names v (answer.Names l) spared k = unasked new k.0
+unless_spares asks old new local path s names v a spared k = then_asked asks path old k.between new (places_over asks path s.deletes k.place old k.between spared k.places) (placed_spares asks k.between new k.place local path s names v (no_place k.place) k.goes_on)
 
 lists_spare : {R : Type 0} (asks : R → Command → Answer → R → Type 0) (old new : R) (path : List (List ℕ)) (a : Answer) (b : Bool) → ListsIf asks old b path a new → Spares asks path old new
 lists_spare asks old new path a true k = only_asked asks deed.List path a old new refl k
 lists_spare asks old new path a false k = unasked new k.0
 
 folder_spares : {R : Type 0} (asks : R → Command → Answer → R → Type 0) (old new : R) (local : List ℕ) (path : List (List ℕ)) (s : Storing) (v : Visited) (r : Result (List (List ℕ)) LocalFault) → s.deletes ≡ false → PutsIfListed asks old local path s r v new → Spares asks path old new
-folder_spares asks old new local path s v (Ok names) no k = then_asked asks path old k.between new (lists_spare asks old k.between path k.listing (is_relisted s) k.lists) (unless_spares asks k.between new local path s names v k.listing no k.goes_on)
-folder_spares asks old new local path s v (Err fault) no k = unasked new k.0
+folder_spares asks old new local path s v (Ok names) spared k = then_asked asks path old k.between new (lists_spare asks old k.between path k.listing (is_relisted s) k.lists) (unless_spares asks k.between new local path s names v k.listing spared k.goes_on)
+folder_spares asks old new local path s v (Err fault) spared k = unasked new k.0
 
 deep_spares : {R F : Type 0} (asks : R → Command → Answer → R → Type 0) (lists : F → List ℕ → Result (List (List ℕ)) LocalFault → F → Type 0) (old new : R) (h h' : F) (local : List ℕ) (path : List (List ℕ)) (s : Storing) (v : Visited) (b : Bool) → s.deletes ≡ false → PutsDeep asks lists old h b local path s v new h' → Spares asks path old new
-deep_spares asks lists old new h h' local path s v true no k = folder_spares asks old new local path s v k.names no k.goes_on
-deep_spares asks lists old new h h' local path s v false no k = unasked new k.0
+deep_spares asks lists old new h h' local path s v true spared k = folder_spares asks old new local path s v k.names spared k.goes_on
+deep_spares asks lists old new h h' local path s v false spared k = unasked new k.0
 
 pub kind_spares : {R F : Type 0} (asks : R → Command → Answer → R → Type 0) (content : R → ℕ → List ℕ) (offers : R → List ℕ → R → Type 0) (reads : F → List ℕ → Result (List ℕ) LocalFault → F → Type 0) (lists : F → List ℕ → Result (List (List ℕ)) LocalFault → F → Type 0) (old new : R) (h h' : F) (local : List ℕ) (path : List (List ℕ)) (s : Storing) (v : Visited) (kind : Kind) → PutsKind asks content offers reads lists old h kind local path s v new h' → s.deletes ≡ false → SparesPut asks content offers old path s new
-kind_spares asks content offers reads lists old new h h' local path s v kinds.File k no = read_spares asks content offers old new local path s v k.bytes no k.goes_on
-kind_spares asks content offers reads lists old new h h' local path s v kinds.Folder k no = looks (deep_spares asks lists old new h h' local path s v s.deep no k)
-kind_spares asks content offers reads lists old new h h' local path s v kinds.Missing k no = looks (unasked new k.0)
-kind_spares asks content offers reads lists old new h h' local path s v kinds.Link k no = looks (unasked new k.0)
-kind_spares asks content offers reads lists old new h h' local path s v kinds.Other k no = looks (unasked new k.0)
-kind_spares asks content offers reads lists old new h h' local path s v (kinds.Hidden fault) k no = looks (unasked new k.0)
+kind_spares asks content offers reads lists old new h h' local path s v kinds.File k spared = read_spares asks content offers old new local path s v k.bytes spared k.goes_on
+kind_spares asks content offers reads lists old new h h' local path s v kinds.Folder k spared = looks (deep_spares asks lists old new h h' local path s v s.deep spared k)
+kind_spares asks content offers reads lists old new h h' local path s v kinds.Missing k spared = looks (unasked new k.0)
+kind_spares asks content offers reads lists old new h h' local path s v kinds.Link k spared = looks (unasked new k.0)
+kind_spares asks content offers reads lists old new h h' local path s v kinds.Other k spared = looks (unasked new k.0)
+kind_spares asks content offers reads lists old new h h' local path s v (kinds.Hidden fault) k spared = looks (unasked new k.0)

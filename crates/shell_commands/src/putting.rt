@@ -1,6 +1,6 @@
 //! How something of the host's is stored, by the walks of `storing` and `removing`: `specs/Putting.antt`.
 
-ghost use Rattle.std.specs.Prelude.{◌≡◌, ◌≤◌, ◌&&◌, ◌||◌, false, length, IfOk, OnOk};
+ghost use Rattle.std.specs.Prelude.{◌≡◌, ◌==◌, ◌≤◌, ◌&&◌, ◌||◌, false, length, IfOk, OnOk};
 ghost use Rattle.limits.specs.declared.TheConstants.{FILE_MOST};
 ghost use Rattle.shell_walks.specs.Storing.{Offers, PutsBytes, is_closed, is_compared, is_kept};
 ghost use Rattle.shell_walks.specs.Telling.{is_dir, is_off, unstored_text, why_of};
@@ -17,7 +17,7 @@ use lb_base::items::{Bytes, Items, Name};
 use shell_walks::asking::{Deed, ask_on};
 use shell_walks::folder::{Folder, Kind, LocalFault};
 use shell_walks::remote::{Answer, Listed, Remote, Why};
-use shell_walks::removing::remove_all;
+use shell_walks::removing::{Gone, remove_all};
 use shell_walks::storing::{is_closed, is_done, make, put};
 use shell_walks::tasks::{Storing, Task, put_known, put_removals, put_tasks};
 use shell_walks::telling::{STORED, is_dir, is_off, path_line, put_unstored, put_why, why_of};
@@ -139,6 +139,13 @@ fn again_if(
     Ok(more)
 }
 
+/// Whether nothing of what was to go stayed.
+fn is_all_gone(gone: &Gone) -> bool
+    ensures { result ≡ (length gone.now.said.note == 0) }
+{
+    gone.said.note.len() == 0
+}
+
 /// Where a directory stands and may go, it goes, and the task comes again.
 fn put_over<R: Remote>(
     alloc: Global,
@@ -150,8 +157,7 @@ fn put_over<R: Remote>(
     ensures { IfOk result (λ v. PutsOver R.asks remote.old local.now path.now storing v remote.new) }
 {
     let gone = remove_all(alloc, remote, path)?;
-    let is_gone = gone.said.note.len() == 0;
-    let more = again_if(alloc, is_gone, local, path, storing)?;
+    let more = again_if(alloc, is_all_gone(&gone), local, path, storing)?;
     Ok(removed(more, gone))
 }
 
