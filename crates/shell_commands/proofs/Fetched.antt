@@ -15,7 +15,7 @@ use Rattle.shell_walks.specs.declared.remote.Why.{Why}
 use Rattle.shell_walks.specs.declared.tasks.Task.{Task}
 use Rattle.shell_walks.specs.declared.tasks.Task.TheVariants as task
 use Rattle.shell_commands.specs.Getting.{ClearsIf, GetsAs, GetsAt, GetsElse, GetsFile, GetsIfDeep, GetsIfListed, GetsInto, GetsKind, is_here, MakesIf, misplaced, not_deep_as, not_into_as, Unlisted}
-use Rattle.shell_commands.specs.Placing.{is_no_directory}
+use Rattle.path_commands.specs.Placing.{is_no_directory}
 use Rattle.shell_commands.specs.Visiting.{AllCome, CountsGot, CountsGot.fetched, CountsGot.not_fetched, EndsGet, faulty_as, is_directory_for, RefusesGet, Touches}
 use Rattle.shell_commands.specs.declared.visiting.Visited.{Visited}
 use Rattle.shell_commands.proofs.Touching.{both, first_found, gets_come, gets_touch, only_cleared, only_found, only_made, only_read, stayed}

@@ -1,4 +1,4 @@
-pub mod Counting
+pub mod Bytes
 pub mod Fetched
 pub mod Lined
 pub mod Removed

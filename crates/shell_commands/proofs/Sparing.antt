@@ -9,9 +9,9 @@ use Rattle.shell_walks.specs.declared.remote.Answer.{Answer}
 use Rattle.shell_walks.specs.declared.tasks.Storing.{Storing}
 use Rattle.shell_walks.specs.declared.tasks.Task.{Task}
 use Rattle.shell_walks.specs.declared.tasks.Task.TheVariants as task
-use Rattle.shell_commands.specs.Placing.{is_in_the_way, is_taken, OverIf, Places, PlacesIf, PlacesOver}
+use Rattle.path_commands.specs.Placing.{is_in_the_way, is_taken, OverIf, Places, PlacesIf, PlacesOver}
 use Rattle.shell_commands.specs.Visiting.{is_removal, PutsAlone, Spares, Spares.unasked, Spares.asked, SparesFor, SparesPut, SparesPut.stores, SparesPut.looks}
-use Rattle.shell_commands.specs.declared.placing.Place.{Place}
+use Rattle.path_commands.specs.declared.placing.Place.{Place}
 
 pub apart : true ≡ false → ⊥
 apart e = cc
@@ -45,20 +45,6 @@ pub places_over : {R : Type 0} (asks : R → Command → Answer → R → Type 0
 places_over asks path deletes p old new e k = over_if asks path k.before p old k.between new (is_in_the_way k.before) deletes e (places asks path k.before old k.between k.places) k.goes_on
 
 -- ---- what calls answer
-
-pub asked_ok : {R E : Type 0} (asks : R → Command → Answer → R → Type 0) (d : Deed) (path : List (List ℕ)) (old new : R) (r : Result Answer E) → is_removal d ≡ false → IfOk r (λ a. AsksOn asks old (command_on d path) a new) → OnOk r (Spares asks path old new)
-asked_ok asks d path old new r is h = IfOk-weaker r _ _ (λ a k. only_asked asks d path a old new is k) h
-
-pub stored_ok : {R A E : Type 0} (asks : R → Command → Answer → R → Type 0) (content : R → ℕ → List ℕ) (offers : R → List ℕ → R → Type 0) (old new : R) (path : List (List ℕ)) (s : Storing) (bytes : List ℕ) (r : Result A E) → OnOk r (PutsAlone asks content offers old path s bytes new) → OnOk r (SparesPut asks content offers old path s new)
-stored_ok asks content offers old new path s bytes r h = IfOk-weaker r _ _ (λ v k. stores bytes k) h
-
-pub looked_ok : {R A E : Type 0} (asks : R → Command → Answer → R → Type 0) (content : R → ℕ → List ℕ) (offers : R → List ℕ → R → Type 0) (old new : R) (path : List (List ℕ)) (s : Storing) (r : Result A E) → OnOk r (Spares asks path old new) → OnOk r (SparesPut asks content offers old path s new)
-looked_ok asks content offers old new path s r h = IfOk-weaker r _ _ (λ v k. looks k) h
-
--- under a condition
-pub under_ok : {A E : Type 0} (r : Result A E) (C P : Type 0) → (C → OnOk r P) → OnOk r (C → P)
-under_ok (Ok x) C P f = f
-under_ok (Err e) C P f = tt
 
 pub spares_put : {R A E : Type 0} (asks : R → Command → Answer → R → Type 0) (content : R → ℕ → List ℕ) (offers : R → List ℕ → R → Type 0) (t : Task) (local : List ℕ) (shown path : List (List ℕ)) (s : Storing) (old new : R) (r : Result A E) → shown ≡ path → t ≡ task.Put local path s → OnOk r (s.deletes ≡ false → SparesPut asks content offers old shown s new) → OnOk r (SparesFor asks content offers t old new)
 spares_put asks content offers t local shown path s old new r same is h = subst (λ (x : Task). OnOk r (SparesFor asks content offers x old new)) (sym is) (subst (λ (p : List (List ℕ)). OnOk r (s.deletes ≡ false → SparesPut asks content offers old p s new)) same h)

@@ -15,10 +15,10 @@ use Rattle.shell_walks.specs.declared.remote.Why.{Why}
 use Rattle.shell_walks.specs.declared.tasks.Storing.{Storing}
 use Rattle.shell_walks.specs.declared.tasks.Task.{Task}
 use Rattle.shell_walks.specs.declared.tasks.Task.TheVariants as task
-use Rattle.shell_commands.specs.Placing.{is_new, ListsIf, no_place}
+use Rattle.path_commands.specs.Placing.{is_new, ListsIf, no_place}
 use Rattle.shell_commands.specs.Putting.{again_if, in_listed, inner, is_relisted, placed, PutsAfter, PutsDeep, PutsElse, PutsIfListed, PutsIfRead, PutsKind, PutsPlaced, PutsUnless, PutsWithin, with_removals}
 use Rattle.shell_commands.specs.Visiting.{AllCome, CountsPut, CountsPut.not_read, CountsPut.read, Spares, Spares.unasked, SparesPut, SparesPut.looks, SparesPut.stores}
-use Rattle.shell_commands.specs.declared.placing.Place.{Place}
+use Rattle.path_commands.specs.declared.placing.Place.{Place}
 use Rattle.shell_commands.specs.declared.visiting.Visited.{Visited}
 use Rattle.shell_commands.proofs.Sparing.{apart, only_asked, places_over, then_asked}
 use Rattle.shell_commands.proofs.Touching.{join, known_come, puts_come, removals_come}

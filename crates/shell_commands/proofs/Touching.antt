@@ -60,13 +60,6 @@ pub removals_come : (local : List ℕ) (path : List (List ℕ)) (s : Storing) (h
 removals_come local path s held [] may = tt
 removals_come local path s held (name ∷ names) may = join (task.Put local path s) (remove_more path held name) (removals path held names) (removal_of local path s name (is_among name held) (is_temporary name) may refl) (removals_come local path s held names may)
 
--- a list that is one of these
-pub same_come : (t : Task) (xs ys : List Task) → xs ≡ ys → AllCome t ys → AllCome t xs
-same_come t xs ys is h = subst (λ (l : List Task). AllCome t l) (sym is) h
-
-pub none_come : (t : Task) (xs : List Task) → xs ≡ [] → AllCome t xs
-none_come t xs is = same_come t xs [] is tt
-
 -- ---- calls of the host's files
 
 pub stayed : {F : Type 0} {finds : F → List ℕ → Kind → F → Type 0} {reads : F → List ℕ → Result (List ℕ) LocalFault → F → Type 0} {writes : F → List ℕ → List ℕ → Result Unit LocalFault → F → Type 0} {lists : F → List ℕ → Result (List (List ℕ)) LocalFault → F → Type 0} {makes tries : F → List ℕ → Result Unit LocalFault → F → Type 0} {clears : F → List ℕ → F → Type 0} (local : List ℕ) (old new : F) → new ≡ old → Touches finds reads writes lists makes tries clears local old new
@@ -121,12 +114,3 @@ gets_after asks content id path local old new host host' (Err fault) g k = untou
 
 pub gets_touch : {F : Type 0} {finds : F → List ℕ → Kind → F → Type 0} {reads : F → List ℕ → Result (List ℕ) LocalFault → F → Type 0} {writes : F → List ℕ → List ℕ → Result Unit LocalFault → F → Type 0} {lists : F → List ℕ → Result (List (List ℕ)) LocalFault → F → Type 0} {makes tries : F → List ℕ → Result Unit LocalFault → F → Type 0} {clears : F → List ℕ → F → Type 0} {R : Type 0} (asks : R → Command → Answer → R → Type 0) (content : R → ℕ → List ℕ) (id : Option ℕ) (path : List (List ℕ)) (local : List ℕ) (old new : R) (host host' : F) (g : Got) → Gets asks content writes tries old host id path local g new host' → Touches finds reads writes lists makes tries clears local host host'
 gets_touch asks content id path local old new host host' g k = both local host k.between host' (only_tried local k.may host k.between k.trial) (gets_after asks content id path local old new k.between host' k.may g k.goes_on)
-
--- what holds whatever came of it, and more
-pub always_ok : {A E : Type 0} (r : Result A E) (P : Type 0) → P → OnOk r P
-always_ok (Ok x) P p = p
-always_ok (Err e) P p = tt
-
-pub more_ok : {A E : Type 0} (r : Result A E) (P Q : Type 0) → (P → Q) → OnOk r P → OnOk r Q
-more_ok (Ok x) P Q f p = f p
-more_ok (Err e) P Q f p = tt

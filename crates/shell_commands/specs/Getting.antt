@@ -17,7 +17,7 @@ use Rattle.shell_walks.specs.declared.remote.Answer.TheVariants as answer
 use Rattle.shell_walks.specs.declared.remote.Listed.{Listed}
 use Rattle.shell_walks.specs.declared.remote.Why.{Why}
 use Rattle.shell_walks.specs.declared.remote.Why.TheVariants as why
-use Rattle.shell_commands.specs.Placing.{is_no_directory}
+use Rattle.path_commands.specs.Placing.{is_no_directory}
 use Rattle.shell_commands.specs.Visiting.{bad_names, faulty_as, is_directory_for, leads, one_file, refused_as, said_of}
 use Rattle.shell_commands.specs.declared.visiting.Visited.{Visited}
 

@@ -1,6 +1,5 @@
 pub mod Getting
 pub mod Lines
-pub mod Placing
 pub mod Putting
 pub mod Tasks
 pub mod Visiting

@@ -19,9 +19,9 @@ use Rattle.shell_walks.specs.declared.removing.Gone.{Gone}
 use Rattle.shell_walks.specs.declared.tasks.Storing.{Storing}
 use Rattle.shell_walks.specs.declared.tasks.Task.{Task}
 use Rattle.shell_walks.specs.declared.tasks.Task.TheVariants as task
-use Rattle.shell_commands.specs.Placing.{is_new, ListsIf, no_place, place_news, PlacesOver}
+use Rattle.path_commands.specs.Placing.{is_new, ListsIf, no_place, place_news, PlacesOver}
 use Rattle.shell_commands.specs.Visiting.{bad_names, faulty_as, leads, refused_as, removed_as, said_of}
-use Rattle.shell_commands.specs.declared.placing.Place.{Place}
+use Rattle.path_commands.specs.declared.placing.Place.{Place}
 use Rattle.shell_commands.specs.declared.visiting.Visited.{Visited}
 
 -- ---- a file

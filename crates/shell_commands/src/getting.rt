@@ -4,7 +4,7 @@ ghost use Rattle.std.specs.Prelude.{◌≡◌, IfOk, OnOk};
 ghost use Rattle.shell_commands.specs.Getting.{folder_as, in_directory, is_here, is_root, misplaced, not_deep_as, not_into_as};
 ghost use Rattle.shell_commands.specs.Getting.{ClearsIf, Ends, GetsAs, GetsAt, GetsDirectory, GetsElse, GetsFile, GetsFound, GetsIfDeep, GetsIfListed, GetsInto, GetsKind, GetsListed, GetsOver};
 ghost use Rattle.shell_commands.specs.Getting.{LooksAgain, MakesFolder, MakesIf, NotInto, OffersFile, Unlisted};
-ghost use Rattle.shell_commands.specs.Placing.{is_no_directory};
+ghost use Rattle.path_commands.specs.Placing.{is_no_directory};
 ghost use Rattle.shell_commands.specs.Visiting.{AllCome, CountsGot, is_directory_for, Touches};
 ghost use Rattle.shell_walks.specs.declared.tasks.Task.TheVariants as tasks;
 

@@ -3,7 +3,6 @@
 #![tactic(auto)]
 
 mod getting;
-pub mod placing;
 mod putting;
 pub mod shell;
 mod unfit;

@@ -4,16 +4,16 @@ ghost use Rattle.std.specs.Prelude.{◌≡◌, ◌==◌, ◌≤◌, ◌&&◌, �
 ghost use Rattle.limits.specs.declared.TheConstants.{FILE_MOST};
 ghost use Rattle.shell_walks.specs.Storing.{Offers, PutsBytes, is_closed, is_compared, is_kept};
 ghost use Rattle.shell_walks.specs.Telling.{is_dir, is_off, unstored_text, why_of};
-ghost use Rattle.shell_commands.specs.Placing.{no_place};
+ghost use Rattle.path_commands.specs.Placing.{no_place};
 ghost use Rattle.shell_commands.specs.Putting.{again_if, in_known, in_listed, in_unknown, in_unlisted, inner, is_relisted, once_more, placed, stored_as, stored_news, unlisted_note, with_removals};
 ghost use Rattle.shell_commands.specs.Putting.{Puts, PutsAfter, PutsAt, PutsCompared, PutsDeep, PutsElse, PutsFile, PutsFolder, PutsInto, PutsKind, PutsNames, PutsOver, PutsPlaced, PutsRead, PutsUnless, PutsWithin};
 ghost use Rattle.shell_commands.specs.Visiting.{AllCome, CountsPut, said_of, SparesPut, Touches};
 ghost use Rattle.shell_walks.specs.declared.tasks.Task.TheVariants as tasks;
 
-use crate::placing::{Place, is_new, list_if, make_place_over, no_place, place_news};
 use crate::unfit::bad_names;
 use crate::visiting::{Visited, faulty, leads, refused, removed, said};
 use lb_base::items::{Bytes, Items, Name};
+use path_commands::placing::{Place, is_new, list_if, make_place_over, no_place, place_news};
 use shell_walks::asking::{Deed, ask_on};
 use shell_walks::folder::{Folder, Kind, LocalFault};
 use shell_walks::remote::{Answer, Listed, Remote, Why};

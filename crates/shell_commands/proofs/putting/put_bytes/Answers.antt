@@ -1,4 +1,4 @@
-use Rattle.shell_commands.proofs.Counting.{made, put}
+use Rattle.shell_commands.proofs.Bytes.{made, put}
 use Rattle.shell_commands.proofs.putting.put_bytes.Goals as goal
 
 pub returns-then-storing : goal.returns-then-storing

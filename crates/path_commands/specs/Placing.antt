@@ -8,8 +8,8 @@ use Rattle.shell_walks.specs.declared.remote.Answer.{Answer}
 use Rattle.shell_walks.specs.declared.remote.Answer.TheVariants as answer
 use Rattle.shell_walks.specs.declared.remote.Why.{Why}
 use Rattle.shell_walks.specs.declared.remote.Why.TheVariants as why
-use Rattle.shell_commands.specs.declared.placing.Place.{Place}
-use Rattle.shell_commands.specs.declared.placing.Place.TheVariants as place
+use Rattle.path_commands.specs.declared.placing.Place.{Place}
+use Rattle.path_commands.specs.declared.placing.Place.TheVariants as place
 
 -- NFS3ERR_EXIST
 abbrev pub is_taken_for : Why → Bool

@@ -1,9 +1,9 @@
 //! Where a folder of the host goes: its directory is made, where there is none (`specs/Placing.antt`).
 
 ghost use Rattle.std.specs.Prelude.{◌≡◌, ◌&&◌, IfOk};
-ghost use Rattle.shell_commands.specs.Placing.{there_as, LooksThere, is_taken, made_as, PlacesIf, MakesPlace, Places, is_in_the_way, instead_as, MakesInstead, OverIf, PlacesOver};
-ghost use Rattle.shell_commands.specs.Placing.{is_new, ListsIf, made_news, no_place, place_news};
-ghost use Rattle.shell_commands.specs.declared.placing.Place.TheVariants as places;
+ghost use Rattle.path_commands.specs.Placing.{there_as, LooksThere, is_taken, made_as, PlacesIf, MakesPlace, Places, is_in_the_way, instead_as, MakesInstead, OverIf, PlacesOver};
+ghost use Rattle.path_commands.specs.Placing.{is_new, ListsIf, made_news, no_place, place_news};
+ghost use Rattle.path_commands.specs.declared.placing.Place.TheVariants as places;
 
 use lb_base::items::{Bytes, Items, Name};
 use shell_walks::asking::{Deed, ask_on};
@@ -170,7 +170,7 @@ pub fn make_place_over<R: Remote>(
 }
 
 /// A directory is listed, where that is wanted; else nothing is asked.
-pub(crate) fn list_if<R: Remote>(
+pub fn list_if<R: Remote>(
     alloc: Global,
     remote: &mut R,
     is_wanted: bool,
@@ -186,7 +186,7 @@ pub(crate) fn list_if<R: Remote>(
 }
 
 /// Why there is no directory, if there is none.
-pub(crate) fn no_place(place: Place) -> Option<Why>
+pub fn no_place(place: Place) -> Option<Why>
     ensures { result ≡ no_place place }
 {
     match place {
@@ -196,7 +196,7 @@ pub(crate) fn no_place(place: Place) -> Option<Why>
 }
 
 /// Whether nothing is in a directory yet.
-pub(crate) fn is_new(place: Place) -> bool
+pub fn is_new(place: Place) -> bool
     ensures { result ≡ is_new place }
 {
     !matches!(place, Place::There)
@@ -224,7 +224,7 @@ fn made_news(alloc: Global, path: &[Name], place: Place) -> Result<Bytes, AllocE
 }
 
 /// What a sync says of a directory that was made.
-pub(crate) fn place_news(
+pub fn place_news(
     alloc: Global,
     path: &[Name],
     is_said: bool,
