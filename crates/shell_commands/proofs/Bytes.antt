@@ -1,15 +1,10 @@
 -- The bytes of a file that are stored.
-use Rattle.std.proofs.Common.{◌≡◌, sym, subst, ℕ, List, Bool, true, false, Option, Result, Ok, IfOk}
+use Rattle.std.proofs.Common.{◌≡◌, sym, subst, ℕ, List, Bool, true, false, Result, IfOk}
 use Rattle.std.proofs.lemmas.Result.{IfOk-weaker}
 use Rattle.command_text.specs.declared.command.Command.{Command}
-use Rattle.shell_walks.specs.Storing.{Makes, Puts, PutsNew, Offers, PutsBytes, is_compared, is_kept, Counts, Counts.kept, CountsRead, CountsRead.was_read}
-use Rattle.shell_walks.specs.Fetching.{Gets}
-use Rattle.shell_walks.specs.declared.fetching.Got.{Got}
-use Rattle.shell_walks.specs.declared.folder.LocalFault.{LocalFault}
+use Rattle.shell_walks.specs.Storing.{Makes, Puts, PutsNew, Offers, PutsBytes, is_compared}
 use Rattle.shell_walks.specs.declared.remote.Answer.{Answer}
 use Rattle.shell_walks.specs.declared.tasks.Storing.{Storing}
-use Rattle.shell_commands.specs.Visiting.{CountsGot, CountsGot.fetched, CountsGot.not_fetched, CountsPut, CountsPut.read, CountsPut.not_read, EndsGet}
-use Rattle.shell_commands.specs.declared.visiting.Visited.{Visited}
 
 -- behind what may have been offered
 puts_new : {R : Type 0} (asks : R → Command → Answer → R → Type 0) (content : R → ℕ → List ℕ) (offers : R → List ℕ → R → Type 0) (old mid new : R) (path : List (List ℕ)) (s : Storing) (bytes : List ℕ) (a : Answer) (c fresh : Bool) → c ≡ is_compared s → Offers offers old c bytes mid → s.fresh ≡ fresh → PutsNew asks content fresh mid s.id path s.changed_only bytes a new → PutsBytes asks content offers old path s bytes a new

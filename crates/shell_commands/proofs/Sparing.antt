@@ -1,6 +1,5 @@
 -- What is asked of the server where nothing may go.
-use Rattle.std.proofs.Common.{◌≡◌, refl, sym, subst, ℕ, List, [], ◌∷◌, Bool, true, false, ◌&&◌, Result, Ok, Err, IfOk, OnOk}
-use Rattle.std.proofs.lemmas.Result.{IfOk-weaker}
+use Rattle.std.proofs.Common.{◌≡◌, refl, sym, subst, ℕ, List, [], ◌∷◌, Bool, true, false, ◌&&◌, Result, OnOk}
 use Rattle.command_text.specs.declared.command.Command.{Command}
 use Rattle.shell_walks.specs.Asking.{command_on, AsksOn}
 use Rattle.shell_walks.specs.declared.asking.Deed.{Deed}
@@ -10,7 +9,7 @@ use Rattle.shell_walks.specs.declared.tasks.Storing.{Storing}
 use Rattle.shell_walks.specs.declared.tasks.Task.{Task}
 use Rattle.shell_walks.specs.declared.tasks.Task.TheVariants as task
 use Rattle.path_commands.specs.Placing.{is_in_the_way, is_taken, OverIf, Places, PlacesIf, PlacesOver}
-use Rattle.shell_commands.specs.Visiting.{is_removal, PutsAlone, Spares, Spares.unasked, Spares.asked, SparesFor, SparesPut, SparesPut.stores, SparesPut.looks}
+use Rattle.shell_commands.specs.Visiting.{is_removal, Spares, Spares.unasked, Spares.asked, SparesFor, SparesPut}
 use Rattle.path_commands.specs.declared.placing.Place.{Place}
 
 pub apart : true ≡ false → ⊥
@@ -44,7 +43,7 @@ over_if asks path before p old mid new false false e t k = subst (λ s. Spares a
 pub places_over : {R : Type 0} (asks : R → Command → Answer → R → Type 0) (path : List (List ℕ)) (deletes : Bool) (p : Place) (old new : R) → deletes ≡ false → PlacesOver asks old path deletes p new → Spares asks path old new
 places_over asks path deletes p old new e k = over_if asks path k.before p old k.between new (is_in_the_way k.before) deletes e (places asks path k.before old k.between k.places) k.goes_on
 
--- ---- what calls answer
+-- ---- of a whole task
 
 pub spares_put : {R A E : Type 0} (asks : R → Command → Answer → R → Type 0) (content : R → ℕ → List ℕ) (offers : R → List ℕ → R → Type 0) (t : Task) (local : List ℕ) (shown path : List (List ℕ)) (s : Storing) (old new : R) (r : Result A E) → shown ≡ path → t ≡ task.Put local path s → OnOk r (s.deletes ≡ false → SparesPut asks content offers old shown s new) → OnOk r (SparesFor asks content offers t old new)
 spares_put asks content offers t local shown path s old new r same is h = subst (λ (x : Task). OnOk r (SparesFor asks content offers x old new)) (sym is) (subst (λ (p : List (List ℕ)). OnOk r (s.deletes ≡ false → SparesPut asks content offers old p s new)) same h)

@@ -1,8 +1,8 @@
 -- What follows of what a storing comes to: which tasks come, which files are counted, and what stays.
-use Rattle.std.proofs.Common.{◌≡◌, refl, sym, subst, ap, ◌∙◌, ℕ, List, [], ◌∷◌, length, Bool, true, false, ◌&&◌, ◌==◌, Option, Some, None, Result, Ok, Err, inl, inr}
+use Rattle.std.proofs.Common.{◌≡◌, refl, sym, subst, ap, ◌∙◌, ℕ, List, length, Bool, true, false, ◌&&◌, ◌==◌, Option, Some, None, Result, Ok, Err, inl}
 use Rattle.command_text.specs.declared.command.Command.{Command}
 use Rattle.shell_walks.specs.Storing.{is_compared, is_kept, Counts.kept, CountsRead.was_read, PutsBytes}
-use Rattle.shell_walks.specs.Tasks.{put_known, put_tasks}
+use Rattle.shell_walks.specs.Tasks.{put_known}
 use Rattle.shell_walks.specs.Telling.{is_dir}
 use Rattle.shell_walks.specs.declared.asking.Deed.TheVariants as deed
 use Rattle.shell_walks.specs.declared.folder.Kind.{Kind}

@@ -1,12 +1,12 @@
 -- What tasks leave alone, and which come of them.
-use Rattle.std.proofs.Common.{◌≡◌, ◌⊎◌, refl, sym, subst, ap, ◌∙◌, ℕ, ◌+◌, List, [], ◌∷◌, ◌++◌, slice_get, Bool, true, false, cond, bytes_eq, Option, Some, None, Result, Ok, Err, OnOk, inr, ◌||◌}
+use Rattle.std.proofs.Common.{◌≡◌, refl, sym, subst, ◌∙◌, ℕ, ◌+◌, List, [], ◌∷◌, ◌++◌, slice_get, Bool, true, false, cond, bytes_eq, Option, Some, None, Result, Ok, Err, inr, ◌||◌}
 use Rattle.command_text.specs.declared.command.Command.{Command}
 use Rattle.shell_words.specs.Local.{below}
 use Rattle.shell_words.specs.Temporary.{is_carried, is_temporary}
 use Rattle.shell_walks.specs.Fetching.{Gets, GetsAfter, GetsIf, Fetches}
 use Rattle.shell_walks.specs.Storing.{opened_file}
 use Rattle.shell_walks.specs.Tasks.{unlisted, known, put_more, put_tasks, put_known, get_more, get_tasks, is_among, remove_more, removals}
-use Rattle.shell_commands.specs.Visiting.{Touches, Touches.untouched, Touches.found, Touches.read, Touches.written, Touches.listed, Touches.made, Touches.tried, Touches.cleared, IsNamedIn, ComesOf, AllCome}
+use Rattle.shell_commands.specs.Visiting.{Touches, Touches.untouched, Touches.found, Touches.read, Touches.written, Touches.listed, Touches.made, Touches.tried, Touches.cleared, AllCome}
 use Rattle.shell_walks.specs.declared.fetching.Got.{Got}
 use Rattle.shell_walks.specs.declared.folder.Kind.{Kind}
 use Rattle.shell_walks.specs.declared.folder.LocalFault.{LocalFault}
