@@ -1,5 +1,5 @@
 -- What the words of a line say: a command, whether its option stands behind it, and its operands.
-use Rattle.std.specs.Prelude.{ℕ, List, [], ◌∷◌, Bool, true, false, not, ◌&&◌, ◌==◌, nat_lt, length, take, remove, Option, Some, None, Result, Ok, Err, codes, bytes_eq, if◌then◌else◌}
+use Rattle.std.specs.Prelude.{ℕ, List, [], ◌∷◌, Bool, true, false, not, ◌&&◌, ◌==◌, nat_lt, length, take, remove, Option, Some, None, Result, Ok, Err, codes, bytes_eq, is_some, if◌then◌else◌}
 use Rattle.std.specs.List.{list_any}
 use Rattle.shell_words.specs.declared.command.Line.{Line}
 use Rattle.shell_words.specs.declared.command.Start.{Start}
@@ -127,8 +127,18 @@ abbrev pub first_verb : List (List ℕ) → Option Verb
 first_verb [] = None
 first_verb (word ∷ words) = verb_of word
 
+-- a command, and behind it --help alone
+abbrev pub asks_help : List (List ℕ) → Bool
+asks_help (word ∷ option ∷ []) = is_some (verb_of word) && bytes_eq option (codes "--help")
+asks_help words = false
+
+-- that is help of this command
+abbrev pub help_of : List (List ℕ) → Line
+help_of words = record { verb = verb.Help; has_option = false; operands = remove words 1 }
+
 -- what the words of a line say: nothing where there are none
 abbrev pub command_of : List (List ℕ) → Result (Option Line) Mistake
 command_of words =
     if length words == 0 then Ok None
+    else if asks_help words then Ok (Some (help_of words))
     else some_line (line_of (first_verb words) (remove words 0))

@@ -4,5 +4,6 @@ pub mod Giving
 pub mod Local
 pub mod Paths
 pub mod Quoting
+pub mod Rows
 pub mod Temporary
 pub mod Words

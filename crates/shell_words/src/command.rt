@@ -3,8 +3,7 @@
 ghost use Rattle.std.specs.Prelude.{◌≡◌, ◌<◌, length};
 ghost use Rattle.std.specs.List.{list_any};
 ghost use Rattle.shell_words.specs.Commands.{is_nothing, verb_of, is_option_of, is_later_of, least_of, most_of, missing, kind_of, start_of, operands_at, counted, line_at, line_of};
-ghost use Rattle.shell_words.specs.Commands.{some_line, first_verb};
-ghost use Rattle.shell_words.specs.Commands.{command_of};
+ghost use Rattle.shell_words.specs.Commands.{some_line, first_verb, asks_help, help_of, command_of};
 
 use crate::mistake::Mistake;
 use command_text::words::is;
@@ -307,6 +306,30 @@ fn first_verb(words: &[Name]) -> Option<Verb>
     }
 }
 
+/// Whether words ask what a command does: `put --help`.
+fn asks_help(words: &[Name]) -> bool
+    ensures { result ≡ asks_help words.now }
+{
+    match words {
+        [word, option] => { verb_of(word.as_slice()).is_some() && is(option.as_slice(), b"--help") }
+        _ => false,
+    }
+}
+
+/// `help`, of the first of two words.
+fn help_of(mut words: Items<Name>) -> Line
+    ensures { result ≡ help_of words }
+{
+    if words.len() > 1 {
+        drop(words.remove(1));
+    }
+    Line {
+        verb: Verb::Help,
+        has_option: false,
+        operands: words,
+    }
+}
+
 impl Line {
     /// What the words of a line say; nothing where there are none. It takes no memory.
     pub fn read(mut words: Items<Name>) -> Result<Option<Line>, Mistake>
@@ -314,6 +337,9 @@ impl Line {
     {
         if words.len() == 0 {
             return Ok(None);
+        }
+        if asks_help(words.as_slice()) {
+            return Ok(Some(help_of(words)));
         }
         let verb = first_verb(words.as_slice());
         drop(words.remove(0));

@@ -5,7 +5,7 @@
 ghost use Rattle.std.specs.Prelude.{◌≡◌, true, false, IfOk, MatchOption, string_bytes};
 ghost use Rattle.std.specs.List.{list_any};
 ghost use Rattle.std.specs.Str.{is_utf8};
-ghost use Rattle.shell_words.specs.Local.{is_parting, is_component, is_local, below, local_path};
+ghost use Rattle.shell_words.specs.Local.{is_parting, is_component, is_local, below, local_path, within, whole_from, whole_path};
 ghost use Rattle.shell_words.specs.Paths.{is_absolute};
 ghost use Rattle.shell_words.specs.Temporary.{temporary};
 
@@ -118,6 +118,47 @@ impl LocalPath {
             LocalPath::copy_of(alloc, word)
         } else {
             LocalPath::below(alloc, folder, word)
+        }
+    }
+
+    /// The path of a name in a folder that may be the root.
+    fn within(alloc: Global, folder: &str, name: &str) -> Result<LocalPath, AllocError>
+        ensures { IfOk result (λ path. path ≡ within folder.now name.now) }
+    {
+        if folder == "/" {
+            LocalPath::below(alloc, "", name)
+        } else {
+            LocalPath::below(alloc, folder, name)
+        }
+    }
+
+    /// A path from the root, by that of the folder in which the program runs.
+    fn whole_from(alloc: Global, here: &str, local: &str) -> Result<LocalPath, AllocError>
+        ensures { IfOk result (λ path. path ≡ whole_from here.now local.now) }
+    {
+        if local.starts_with("/") {
+            LocalPath::copy_of(alloc, local)
+        } else if local == "." {
+            LocalPath::copy_of(alloc, here)
+        } else if let Some(rest) = local.strip_prefix("./") {
+            LocalPath::within(alloc, here, rest)
+        } else {
+            LocalPath::within(alloc, here, local)
+        }
+    }
+
+    /// A path from the root, so that it names the same wherever a program runs; as it is where it isn't known in
+    /// which folder this one does.
+    pub fn whole(
+        alloc: Global,
+        here: &Option<LocalPath>,
+        local: &str,
+    ) -> Result<LocalPath, AllocError>
+        ensures { IfOk result (λ path. path ≡ whole_path here.now local.now) }
+    {
+        match here {
+            Some(here) => LocalPath::whole_from(alloc, here.as_str(), local),
+            None => LocalPath::copy_of(alloc, local),
         }
     }
 
