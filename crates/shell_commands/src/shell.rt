@@ -2,6 +2,8 @@
 //! `specs/Lines.antt` says which path a word names, and what is done with it.
 
 ghost use Rattle.std.specs.Prelude.{◌≡◌, ◌++◌, codes, IfOk, OnOk};
+ghost use Rattle.shell_words.specs.Local.{whole_path};
+ghost use Rattle.shell_words.specs.Quoting.{quoted};
 ghost use Rattle.shell_walks.specs.Telling.{fine, path_text};
 ghost use Rattle.shell_commands.specs.Lines.{of_word, mistaken_as, operand_of, Names, gone_told, gone_to, Goes, MovesTo, IsGet, IsPut, put_storing, sync_storing, DoesPath, RunsNamed, Runs};
 
@@ -33,6 +35,8 @@ pub struct Shell {
     dir: Path,
     /// The folder of the host.
     folder: LocalPath,
+    /// The folder that the program runs in, from the root, where that is known.
+    here: Option<LocalPath>,
 }
 
 /// What a line comes to.
@@ -186,12 +190,17 @@ fn make_way<R: Remote>(alloc: Global, remote: &mut R, path: &[Name]) -> Result<T
 }
 
 impl Shell {
-    /// A shell at the server's root, and in this folder.
-    pub fn new(alloc: Global, folder: LocalPath) -> Shell {
-        Shell {
+    /// A shell at the server's root, and in the folder that the program runs in, which is this one, where it is known.
+    pub fn new(alloc: Global, here: &Option<LocalPath>) -> Result<Shell, AllocError> {
+        let here = match here {
+            Some(path) => Some(LocalPath::copy_of(alloc, path.as_str())?),
+            None => None,
+        };
+        Ok(Shell {
             dir: Items::new(alloc),
-            folder,
-        }
+            folder: LocalPath::copy_of(alloc, ".")?,
+            here,
+        })
     }
 
     /// The directory of the server in which it stands.
@@ -223,8 +232,11 @@ impl Shell {
     }
 
     /// `lcd` without a word.
-    fn tell_folder(&self, alloc: Global) -> Result<Told, AllocError> {
-        let mut text = quoted(alloc, self.folder.as_str().as_bytes())?;
+    fn tell_folder(&self, alloc: Global) -> Result<Told, AllocError>
+        ensures { IfOk result (λ told. told ≡ fine (quoted (whole_path self.now.here self.now.folder) ++ codes "\n")) }
+    {
+        let whole = LocalPath::whole(alloc, &self.here, self.folder.as_str())?;
+        let mut text = quoted(alloc, whole.as_str().as_bytes())?;
         text.extend_from_slice(b"\n")?;
         Ok(fine(alloc, text))
     }
