@@ -16,7 +16,7 @@ rmdir PATH                 removes an empty directory
 mv PATH PATH               gives a file or a directory another name
 stat PATH                  says what a name stands for
 cat PATH                   writes what is in a file
-help [COMMAND]             says this, or more of one command
+help [COMMAND]             says this, or more of one command (COMMAND --help)
 bye                        ends the shell
 PATH is on the server, LOCAL here; a name with blanks is quoted: 'two words'.
 ";
@@ -38,7 +38,7 @@ Says in which directory of the server the shell stands.
 
 const LCD: &str = "lcd [LOCAL]
 Goes to a folder here, where LOCALs that begin with no slash begin from then
-on; without LOCAL it says which one (. is where the shell began).
+on; without LOCAL it says which one.
 ";
 
 const GET: &str = "get [-r] PATH [LOCAL]
@@ -92,7 +92,7 @@ Writes what is in a file to standard output.
 ";
 
 const HELP: &str = "help [COMMAND]
-Says which commands there are, or what one of them does.
+Says which commands there are, or what one does, as COMMAND --help does.
 ";
 
 const BYE: &str = "bye
