@@ -1,8 +1,11 @@
 -- Worked rows: what a command came to, and what is said of one that was stopped.
-use Rattle.std.specs.Prelude.{◌≡◌, [], ◌∷◌, true, false, codes, refl}
+use Rattle.std.specs.Prelude.{◌≡◌, ℕ, List, [], ◌∷◌, Some, None, true, false, codes, refl}
 use Rattle.std.specs.Fmt.{digits}
+use Rattle.shell_walks.specs.declared.tasks.Task.{Task}
+use Rattle.shell_walks.specs.declared.tasks.Task.TheVariants as task
+use Rattle.shell_commands.specs.Lines.{sync_storing}
 use Rattle.shell_telling.specs.Tally.{nothing_yet, with_visit}
-use Rattle.shell_telling.specs.Telling.{end_line, get_again, left_out_text, stopped_line, sync_again, unsure_line}
+use Rattle.shell_telling.specs.Telling.{again_text, end_line, left_out_text, stopped_line, unsure_line}
 
 pub all_done : end_line (record { files = 12; bytes = 20300000; undone = 0; is_fine = true }) 170000 ≡ codes "12 files, 20.3 MB; 0.17 MB on the line\n"
 unfolding digits
@@ -13,19 +16,38 @@ unfolding digits
 some_undone = refl
 
 -- a note of two names
-pub two_undone : with_visit (record { files = 1; bytes = 2; undone = 3; is_fine = true }) (record { more = []; note = codes "/a: x\n/b: y\n"; news = []; files = 0; bytes = 0; is_off = false }) ≡ record { files = 1; bytes = 2; undone = 5; is_fine = false }
+pub two_undone : with_visit (record { files = 1; bytes = 2; undone = 3; is_fine = true }) (record { more = []; note = codes "/a: x\n/b: y\n"; news = []; files = 0; bytes = 0; is_off = false; left = 0 }) ≡ record { files = 1; bytes = 2; undone = 5; is_fine = false }
 two_undone = refl
 
-pub one_done : with_visit nothing_yet (record { more = []; note = []; news = codes "/a: stored\n"; files = 1; bytes = 7; is_off = false }) ≡ record { files = 1; bytes = 7; undone = 0; is_fine = true }
+pub one_done : with_visit nothing_yet (record { more = []; note = []; news = codes "/a: stored\n"; files = 1; bytes = 7; is_off = false; left = 0 }) ≡ record { files = 1; bytes = 7; undone = 0; is_fine = true }
 one_done = refl
 
-pub put_goes_on : left_out_text 188 (sync_again true true (codes "./tree") (codes "tree" ∷ [])) ≡ codes "not begun: at least 188 more; to go on in lbfs shell: sync --delete ./tree /tree\n"
+abbrev put_of : (local name : List ℕ) → Task
+put_of local name = task.Put local (name ∷ []) (sync_storing true)
+
+pub put_goes_on : left_out_text 188 (again_text (Some (codes "/home/u")) (put_of (codes "./tree") (codes "tree"))) ≡ codes "not begun: at least 188 more; to go on in lbfs shell: sync --delete /home/u/tree /tree\n"
 unfolding digits
 put_goes_on = refl
 
-pub get_goes_on : stopped_line (record { files = 12; bytes = 50000; undone = 0; is_fine = true }) 188 (get_again true (codes "docs" ∷ []) (codes "./docs")) ≡ codes "stopped: 12 of 200 files, 0.05 MB; to go on in lbfs shell: get -r /docs/. ./docs\n"
+-- nothing is known any more, and it goes on all the same
+pub nothing_known : left_out_text 0 (again_text None (put_of (codes "./tree") (codes "tree"))) ≡ codes "to go on in lbfs shell: sync --delete ./tree /tree\n"
+nothing_known = refl
+
+pub no_way_on : left_out_text 0 (again_text None (task.Remove (codes "a" ∷ []))) ≡ []
+no_way_on = refl
+
+pub removal_left_out : left_out_text 7 [] ≡ codes "not begun: at least 7 more\n"
+unfolding digits
+removal_left_out = refl
+
+-- behind `lcd /tmp/parts`
+pub get_goes_on : stopped_line (record { files = 12; bytes = 50000; undone = 0; is_fine = true }) 188 (again_text (Some (codes "/home/u")) (task.Get (codes "docs" ∷ []) (codes "/tmp/parts/docs") true None)) ≡ codes "stopped: 12 of 200 files, 0.05 MB; to go on in lbfs shell: get -r /docs/. /tmp/parts/docs\n"
 unfolding digits
 get_goes_on = refl
+
+pub one_file_stopped : stopped_line (record { files = 0; bytes = 0; undone = 0; is_fine = true }) 1 [] ≡ codes "stopped: 0 of 1 file, 0 bytes\n"
+unfolding digits
+one_file_stopped = refl
 
 pub removal_stopped : unsure_line false ≡ codes "stopped: it may have been done, or not\n"
 removal_stopped = refl

@@ -1,5 +1,6 @@
 -- The lines that say how far a command is, and what it came to.
 use Rattle.std.specs.Prelude.{ℕ, ◌+◌, ◌-◌, ◌*◌, ◌^◌, ◌/◌, ◌%◌, ◌==◌, ◌&&◌, List, [], ◌∷◌, ◌++◌, Bool, true, false, Option, Some, None, min, length, nat_lt, nat_le, codes, decimal, if◌then◌else◌}
+use Rattle.shell_words.specs.Local.{whole_path}
 use Rattle.shell_words.specs.Quoting.{quoted}
 use Rattle.shell_walks.specs.Telling.{path_text}
 use Rattle.shell_walks.specs.declared.tasks.Task.{Task}
@@ -85,7 +86,7 @@ shown_line false g = if nat_le 2000 g.still then Some waiting_line else None
 
 -- what goes on with a folder, and with a directory: it goes to LOCAL itself, which is there by then. It is no line for the host's own shell, which may have a `sync`, too
 abbrev pub again_words : List ℕ
-again_words = codes "; to go on in lbfs shell: "
+again_words = codes "to go on in lbfs shell: "
 
 abbrev pub delete_words : Bool → List ℕ
 delete_words true = codes "--delete "
@@ -99,14 +100,19 @@ abbrev pub get_again : (deep : Bool) → (path : List (List ℕ)) → (local : L
 get_again true path local = again_words ++ codes "get -r " ++ path_text path ++ codes "/. " ++ quoted local
 get_again false path local = []
 
-abbrev pub again_text : Task → List ℕ
-again_text (task.Put local path s) = sync_again s.deep s.deletes local path
-again_text (task.Get path local deep id) = get_again deep path local
-again_text t = []
+-- LOCAL from the root, by the folder in which the program runs: so it is the same behind any `lcd`, and in a shell that is begun elsewhere
+abbrev pub again_text : (here : Option (List ℕ)) → Task → List ℕ
+again_text here (task.Put local path s) = sync_again s.deep s.deletes (whole_path here local) path
+again_text here (task.Get path local deep id) = get_again deep path (whole_path here local)
+again_text here t = []
+
+-- these words, where there are some, behind what is said
+abbrev pub behind : (again : List ℕ) → List ℕ
+behind again = if length again == 0 then [] else codes "; " ++ again
 
 -- what is said of a command in the midst of which the program was ended
 abbrev pub stopped_line : Tally → (left : ℕ) → (again : List ℕ) → List ℕ
-stopped_line t left again = codes "stopped: " ++ files_text t.files left ++ codes ", " ++ size_text t.bytes ++ again ++ codes "\n"
+stopped_line t left again = codes "stopped: " ++ files_text t.files left ++ codes ", " ++ size_text t.bytes ++ behind again ++ codes "\n"
 
 -- the same of one that isn't done in tasks: `rm -r` may have removed a part
 abbrev pub unsure_line : (deep : Bool) → List ℕ
@@ -115,9 +121,15 @@ unsure_line false = codes "stopped: it may have been done, or not\n"
 
 -- ---- what is said beside it
 
--- of those that were known: a directory that wasn't begun may have had many more
+-- how one goes on, where there is a way
+abbrev pub way_on : (again : List ℕ) → List ℕ
+way_on again = if length again == 0 then [] else again ++ codes "\n"
+
+-- of those that were known: a directory that wasn't begun may have had many more. How one goes on is said also where none was known
 abbrev pub left_out_text : ℕ → (again : List ℕ) → List ℕ
-left_out_text n again = codes "not begun: at least " ++ decimal n ++ codes " more" ++ again ++ codes "\n"
+left_out_text n again =
+    if nat_lt 0 n then codes "not begun: at least " ++ decimal n ++ codes " more" ++ behind again ++ codes "\n"
+    else way_on again
 
 abbrev pub prompt_text : List (List ℕ) → List ℕ
 prompt_text place = codes "lbfs:" ++ path_text place ++ codes "> "

@@ -3,13 +3,14 @@
 ghost use Rattle.std.specs.Prelude.{◌≡◌, ◌++◌, IfOk, OnOk, codes, decimal};
 ghost use Rattle.shell_telling.specs.Telling.{count_text, big_text, middle_text, size_text, undone_text, counts_text, end_line, rate_text, left_of, left_text, files_text, line_part};
 ghost use Rattle.shell_telling.specs.Telling.{pace_text, progress_line, waits_text, waiting_line, shown_line, left_out_text, stopped_line, unsure_line};
-ghost use Rattle.shell_telling.specs.Telling.{delete_words, again_words, sync_again, get_again, again_text};
+ghost use Rattle.shell_telling.specs.Telling.{delete_words, again_words, sync_again, get_again, again_text, behind, way_on};
 ghost use Rattle.shell_telling.specs.Telling.{prompt_text, number_text, line_text};
 
 use crate::tally::Tally;
 use lb_base::items::{Bytes, Items, Name};
 use shell_walks::tasks::Task;
 use shell_walks::telling::path_text;
+use shell_words::local::LocalPath;
 use shell_words::quoting::quoted;
 use std::alloc::{AllocError, Global};
 use std::fmt::Write;
@@ -248,7 +249,7 @@ fn delete_words(deletes: bool) -> &'static [u8]
 fn again_words() -> &'static [u8]
     ensures { result.now ≡ again_words }
 {
-    b"; to go on in lbfs shell: "
+    b"to go on in lbfs shell: "
 }
 
 /// What goes on with a folder that is stored.
@@ -292,30 +293,48 @@ fn get_again(alloc: Global, deep: bool, path: &[Name], local: &str) -> Result<By
     Ok(out)
 }
 
-/// What goes on with a task, where it was ended in the midst of what came from it.
-pub fn again_text(alloc: Global, task: &Task) -> Result<Bytes, AllocError>
-    ensures { IfOk result (λ text. text ≡ again_text task.now) }
+/// What goes on with a task, where it was ended in the midst of what came from it, of a program that runs in this
+/// folder, if that is known.
+pub fn again_text(alloc: Global, here: &Option<LocalPath>, task: &Task) -> Result<Bytes, AllocError>
+    ensures { IfOk result (λ text. text ≡ again_text here.now task.now) }
 {
     match task {
         Task::Put {
             local,
             path,
             storing,
-        } => sync_again(
-            alloc,
-            storing.deep,
-            storing.deletes,
-            local.as_str(),
-            path.as_slice(),
-        ),
+        } => {
+            let local = LocalPath::whole(alloc, here, local.as_str())?;
+            sync_again(
+                alloc,
+                storing.deep,
+                storing.deletes,
+                local.as_str(),
+                path.as_slice(),
+            )
+        }
         Task::Get {
             path,
             local,
             deep,
             ..
-        } => get_again(alloc, *deep, path.as_slice(), local.as_str()),
+        } => {
+            let local = LocalPath::whole(alloc, here, local.as_str())?;
+            get_again(alloc, *deep, path.as_slice(), local.as_str())
+        }
         Task::Remove(_) => Ok(Items::new(alloc)),
     }
+}
+
+/// These words go behind what is said, where there are some.
+fn put_behind(out: &mut Bytes, again: &[u8]) -> Result<(), AllocError>
+    ensures { OnOk result (out.new ≡ out.old ++ behind again.now) }
+{
+    if again.len() == 0 {
+        return Ok(());
+    }
+    out.extend_from_slice(b"; ")?;
+    out.extend_from_slice(again)
 }
 
 /// What is said of a command in the midst of which the program was ended.
@@ -333,7 +352,7 @@ pub fn stopped_line(
     out.extend_from_slice(files.as_slice())?;
     out.extend_from_slice(b", ")?;
     out.extend_from_slice(contents.as_slice())?;
-    out.extend_from_slice(again)?;
+    put_behind(&mut out, again)?;
     out.extend_from_slice(b"\n")?;
     Ok(out)
 }
@@ -358,14 +377,30 @@ fn put_count(alloc: Global, out: &mut Bytes, count: u64) -> Result<(), AllocErro
     out.extend_from_slice(text.as_bytes())
 }
 
-/// What is said of tasks that weren't begun, and were known: a directory among them may have had many more.
+/// How one goes on, where there is a way.
+fn way_on(alloc: Global, again: &[u8]) -> Result<Bytes, AllocError>
+    ensures { IfOk result (λ text. text ≡ way_on again.now) }
+{
+    if again.len() == 0 {
+        return Ok(Items::new(alloc));
+    }
+    let mut out = Items::copy_of(alloc, again)?;
+    out.extend_from_slice(b"\n")?;
+    Ok(out)
+}
+
+/// What is said of tasks that weren't begun, and were known: a directory among them may have had many more. Where none
+/// was known it is said how one goes on.
 pub fn left_out_text(alloc: Global, count: u64, again: &[u8]) -> Result<Bytes, AllocError>
     ensures { IfOk result (λ text. text ≡ left_out_text count again.now) }
 {
+    if count == 0 {
+        return way_on(alloc, again);
+    }
     let mut out = Items::copy_of(alloc, b"not begun: at least ")?;
     put_count(alloc, &mut out, count)?;
     out.extend_from_slice(b" more")?;
-    out.extend_from_slice(again)?;
+    put_behind(&mut out, again)?;
     out.extend_from_slice(b"\n")?;
     Ok(out)
 }
