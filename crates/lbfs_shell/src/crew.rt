@@ -22,6 +22,7 @@ use shell_walks::remote::Remote;
 use shell_walks::screen::Screen;
 use shell_walks::tasks::Task;
 use shell_words::command::{Line, Verb};
+use shell_words::local::LocalPath;
 use std::alloc::{AllocError, Global};
 use std::sync::Wait;
 use std::thread;
@@ -38,7 +39,7 @@ pub(crate) struct Manner {
     pub(crate) quiet: bool,
 }
 
-/// Does a task, and settles it.
+/// Does a task, and counts in what it came to.
 fn do_one<W: Wait, P: Screen + Keeps, R: Remote, F: Folder>(
     rt: &W,
     alloc: Global,
@@ -223,7 +224,8 @@ where
     );
 }
 
-/// Does a task with all that come of it; none where memory ran out. What wasn't done is said as it happens.
+/// Does a task with all that come of it; none where memory ran out. What wasn't done is said as it happens, and how one
+/// goes on by paths from the root, where it is known in which folder the program runs.
 pub(crate) fn run_task<
     W: Threads + Wait + Sync,
     P: Screen + Keeps + Sync,
@@ -238,6 +240,7 @@ pub(crate) fn run_task<
     alloc: Global,
     out: &Outside<P, H, D, C, T>,
     manner: Manner,
+    here: &Option<LocalPath>,
     remote: &mut R,
     folder: &mut F,
     task: Task,
@@ -246,7 +249,7 @@ where
     D::L: Drop + Send,
     H::F: Drop + Send,
 {
-    let Ok(pool) = Pool::new(alloc, task, manner.quiet) else {
+    let Ok(pool) = Pool::new(alloc, here, task, manner.quiet) else {
         return None;
     };
     run_crew(rt, alloc, &pool, out, manner, remote, folder);

@@ -1,9 +1,10 @@
 //! The tasks of a command, which its threads share: what is to do, what came of it so far, and the line that
 //! says so. No clause speaks of what is behind the lock, since another thread's turn may stand before and
-//! behind each; of what one turn makes of it `Jobs::settle` does.
+//! behind each; of what one turn makes of it `Jobs::count_in` does.
 
-ghost use Rattle.std.specs.Prelude.{◌≡◌, ◌-◌, ◌++◌, ◌||◌, [], true, false, length, reverse};
+ghost use Rattle.std.specs.Prelude.{◌≡◌, ◌-◌, ◌++◌, ◌||◌, [], IfOk, true, false, length, reverse, if◌then◌else◌};
 ghost use Rattle.shell_telling.specs.Tally.{capped_sum, with_visit};
+ghost use Rattle.shell_telling.specs.Telling.{left_out_text};
 
 use last_words::keeping::Keeps;
 use lb_base::items::{Bytes, Items};
@@ -12,6 +13,7 @@ use shell_telling::tally::Tally;
 use shell_telling::telling::{Glance, again_text, left_out_text, shown_line, stopped_line};
 use shell_walks::screen::Screen;
 use shell_walks::tasks::Task;
+use shell_words::local::LocalPath;
 use std::alloc::{AllocError, Global};
 use std::mem;
 use std::sync::{Condvar, Mutex, Wait};
@@ -105,13 +107,22 @@ impl Jobs {
         self.tasks.clear();
     }
 
-    /// How many tasks weren't begun is said, where some weren't.
+    /// What is said at the end: how many tasks weren't begun, and how one goes on where no server answers any more.
+    fn left_out_said(&self, alloc: Global) -> Result<Bytes, AllocError>
+        ensures { IfOk result (λ text. text ≡ (if self.now.is_off || self.now.is_starved then left_out_text self.now.left_out self.now.again else [])) }
+    {
+        if self.is_off || self.is_starved {
+            left_out_text(alloc, self.left_out, self.again.as_slice())
+        } else {
+            Ok(Items::new(alloc))
+        }
+    }
+
+    /// That is said.
     fn say_left_out<P: Screen>(&mut self, alloc: Global, screen: &P) {
-        if self.left_out > 0 {
-            match left_out_text(alloc, self.left_out, self.again.as_slice()) {
-                Ok(text) => self.say(screen, text.as_slice()),
-                Err(AllocError) => self.is_starved = true,
-            }
+        match self.left_out_said(alloc) {
+            Ok(text) => self.say(screen, text.as_slice()),
+            Err(AllocError) => self.is_starved = true,
         }
     }
 
@@ -125,12 +136,14 @@ impl Jobs {
         }
     }
 
-    /// What a task came to counts, and what comes of it is to do. Once there is no server nothing is.
-    fn settle(&mut self, alloc: Global, visited: Visited)
+    /// What a task came to counts, and what comes of it is to do. Once there is no server, or memory ran out, nothing is.
+    fn count_in(&mut self, alloc: Global, visited: Visited)
         ensures tally { self.new.tally ≡ with_visit self.old.tally visited }
         ensures off { self.new.is_off ≡ (self.old.is_off || visited.is_off) }
         ensures none { self.new.is_off ≡ true → self.new.tasks.items ≡ [] }
-        ensures all { self.new.is_starved ≡ false → capped_sum self.new.left_out (length self.new.tasks.items) ≡ capped_sum (capped_sum self.old.left_out (length self.old.tasks.items)) (length visited.more) }
+        ensures spent { self.new.is_starved ≡ true → self.new.tasks.items ≡ [] }
+        ensures all { self.new.is_starved ≡ false → capped_sum self.new.left_out (length self.new.tasks.items)
+            ≡ capped_sum (capped_sum (capped_sum self.old.left_out visited.left) (length self.old.tasks.items)) (length visited.more) }
         ensures comes { self.new.is_off ≡ false → self.new.is_starved ≡ false → self.new.tasks.items ≡ self.old.tasks.items ++ reverse visited.more }
         ensures starved { self.old.is_starved ≡ true → self.new.is_starved ≡ true }
         ensures busy { self.new.busy ≡ self.old.busy - 1 }
@@ -139,6 +152,7 @@ impl Jobs {
         self.busy = self.busy.saturating_sub(1);
         self.tally = self.tally.with(&visited);
         self.is_off = self.is_off || visited.is_off;
+        self.left_out = self.left_out.saturating_add(visited.left);
         let mut visited = visited;
         let more = mem::replace(&mut visited.more, Items::new(alloc));
         drop(visited);
@@ -148,13 +162,28 @@ impl Jobs {
         }
     }
 
+    /// Memory ran out in a task: nothing is to do any more.
+    fn starve(&mut self)
+        ensures starved { self.new.is_starved ≡ true }
+        ensures none { self.new.tasks.items ≡ [] }
+        ensures left { self.new.left_out ≡ capped_sum self.old.left_out (length self.old.tasks.items) }
+        ensures busy { self.new.busy ≡ self.old.busy - 1 }
+        ensures off { self.new.is_off ≡ self.old.is_off }
+        ensures tally { self.new.tally ≡ self.old.tally }
+        ensures again { self.new.again ≡ self.old.again }
+    {
+        self.busy = self.busy.saturating_sub(1);
+        self.is_starved = true;
+        self.leave_out();
+    }
+
     /// A task was done, which is said.
     fn note_done<P: Screen + Keeps>(&mut self, alloc: Global, screen: &P, visited: Visited) {
         if !self.is_quiet {
             self.say(screen, visited.news.as_slice());
         }
         self.say(screen, visited.note.as_slice());
-        self.settle(alloc, visited);
+        self.count_in(alloc, visited);
         self.keep(alloc, screen);
     }
 }
@@ -180,9 +209,14 @@ impl Pool {
         }
     }
 
-    /// One task is to do, of which less is said where it is quiet.
-    pub(crate) fn new(alloc: Global, task: Task, is_quiet: bool) -> Result<Pool, AllocError> {
-        let again = again_text(alloc, &task)?;
+    /// One task is to do, of which less is said where it is quiet, of a program that runs in this folder.
+    pub(crate) fn new(
+        alloc: Global,
+        here: &Option<LocalPath>,
+        task: Task,
+        is_quiet: bool,
+    ) -> Result<Pool, AllocError> {
+        let again = again_text(alloc, here, &task)?;
         let mut tasks = Vec::new(alloc);
         tasks.push(task)?;
         Ok(Pool::of(tasks, again, is_quiet, true))
@@ -247,11 +281,7 @@ impl Pool {
 
     /// Memory ran out in a task: no further one is begun.
     pub(crate) fn starve<W: Wait>(&self, rt: &W) {
-        let mut jobs = self.jobs.lock(rt);
-        jobs.busy = jobs.busy.saturating_sub(1);
-        jobs.is_starved = true;
-        jobs.tasks.clear();
-        drop(jobs);
+        self.jobs.lock(rt).starve();
         self.news.notify_all();
     }
 

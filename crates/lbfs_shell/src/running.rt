@@ -46,6 +46,8 @@ pub struct ShellAsked {
     pub links: u32,
     /// The cache file, where there is one.
     pub cache: Option<LocalPath>,
+    /// The folder that the program runs in, from the root, where that is known.
+    pub here: Option<LocalPath>,
     /// Whether neither how far a command is nor what it came to is said.
     pub quiet: bool,
     /// The words of the one command; none where lines are read.
@@ -99,6 +101,7 @@ where
         alloc,
         out,
         manner,
+        &asked.here,
         &mut seat.remote,
         &mut seat.folder,
         task,
@@ -602,7 +605,7 @@ where
     ensures refused { IsErrOf result ends.Undone → (host : H.F) × ((kept : H.F) × Chooses H.F.reads host asked.now.cache (Err ends.Undone) kept) }
     ensures end { IfErr result (λ e. (e ≡ ends.Undone) ⊎ ((e ≡ ends.Network) ⊎ (e ≡ ends.Memory))) }
 {
-    let Ok(here) = LocalPath::copy_of(alloc, ".") else {
+    let Ok(shell) = Shell::new(alloc, &asked.here) else {
         return Err(ShellEnd::Memory);
     };
     let mut folder = out.folders.folder(0);
@@ -612,7 +615,6 @@ where
     };
     match joined(alloc, &out.dialler, &out.clock) {
         Ok(remote) => {
-            let shell = Shell::new(alloc, here);
             let seat = Seat {
                 shell,
                 remote,
