@@ -17,11 +17,11 @@ use program_words::asked::StorePath;
 use program_words::front::ShellOptions;
 use shell_words::local::LocalPath;
 use std::alloc::{AllocError, Global};
-use std::process;
 use std::process::ExitCode;
 use std::sync::atomic::AtomicU64;
 use std::sync::{Arc, Wait};
 use std::thread::Threads;
+use std::{env, process};
 
 /// Runs a shell, and tells what is left to tell of its end.
 pub(crate) fn run_front<H: Threads + Wait + Sync>(
@@ -151,6 +151,17 @@ fn name_of(cache: &Option<LocalPath>) -> Option<&str> {
     }
 }
 
+/// The folder that the program runs in, from the root; none where that can't be told, as where it is gone.
+fn here_of(rt: &HostRuntime) -> Option<LocalPath> {
+    let path = env::current_dir(rt).ok()?;
+    let text = path.as_str();
+    if text.starts_with("/") {
+        LocalPath::copy_of(rt.alloc(), text).ok()
+    } else {
+        None
+    }
+}
+
 /// Runs a shell over the outside of this machine; the bytes that go over its links are counted there.
 fn run_over<H: Threads + Wait + Sync>(
     handle: &H,
@@ -170,6 +181,7 @@ fn run_over<H: Threads + Wait + Sync>(
     let asked = ShellAsked {
         links,
         cache,
+        here: here_of(&rt),
         quiet,
         command,
     };

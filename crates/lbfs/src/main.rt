@@ -289,12 +289,26 @@ fn asks_help(word: &str) -> bool {
     word == "--help" || word == "-h"
 }
 
-/// The words of the help that is asked of a shell, if it is: `shell help` wants no port.
+/// Whether two words ask for help of the first, or the first for help of the second.
+fn asks_help_of(word: &str, other: &str, command: &str) -> bool {
+    (word == command && (asks_help(other) || other == "help"))
+        || (word == "help" && other == command)
+}
+
+/// Whether words are a command of a shell, and behind it `--help` alone.
+fn asks_one(command: &str, word: &str, option: &str) -> bool {
+    command == "shell" && !word.starts_with("-") && option == "--help"
+}
+
+/// The words of the help that is asked of a shell, if it is, for which no port is wanted: `shell help put`,
+/// `help shell put`, `shell put --help`.
 fn help_words(words: &[String]) -> Option<&[String]> {
     match words {
-        [command, option, more @ ..] if command.as_str() == "shell" => {
-            let asks = asks_help(option.as_str()) || option.as_str() == "help";
-            if asks { Some(more) } else { None }
+        [command, word, more @ ..] if asks_help_of(command.as_str(), word.as_str(), "shell") => {
+            Some(more)
+        }
+        [command, word, option] if asks_one(command.as_str(), word.as_str(), option.as_str()) => {
+            Some(&words[1..2])
         }
         _ => None,
     }
@@ -303,7 +317,15 @@ fn help_words(words: &[String]) -> Option<&[String]> {
 /// Whether the words ask what there is to type to share a folder.
 fn asks_share(words: &[String]) -> bool {
     match words {
-        [command, option] => command.as_str() == "share" && asks_help(option.as_str()),
+        [word, other] => asks_help_of(word.as_str(), other.as_str(), "share"),
+        _ => false,
+    }
+}
+
+/// Whether words that are refused ask what there is to type to a shell, behind its options.
+fn asks_shell(words: &[String]) -> bool {
+    match words {
+        [command, .., option] => command.as_str() == "shell" && asks_help(option.as_str()),
         _ => false,
     }
 }
@@ -317,6 +339,7 @@ fn run_words<H: Threads + Wait + Sync>(handle: &H, rt: HostRuntime, words: &[Str
         return run_help(handle, rt, more);
     }
     match front_of(rt.alloc(), words) {
+        Ok(None) if asks_shell(words) => run_help(handle, rt, &[]),
         Ok(front) => run_others(handle, rt, words, front),
         Err(AllocError) => starved(&rt),
     }
