@@ -116,10 +116,18 @@ class Server(Run):
         with held_port() as held:
             self.port = port or held.getsockname()[1]
             words = ["serve", "--port", self.port, "--term", term, "--sessions", sessions, "--store", folder, *more]
+            self.under = under
             super().__init__(words, under, stdin=subprocess.DEVNULL)
             until = time.monotonic() + PATIENCE
             while not listens(self.port) and self.process.poll() is None and time.monotonic() < until:
                 time.sleep(0.005)
+
+    def kill(self):
+        """One that another command runs goes a moment behind that one, and holds its store until then."""
+        super().kill()
+        until = time.monotonic() + PATIENCE
+        while self.under and listens(self.port) and time.monotonic() < until:
+            time.sleep(0.005)
 
     def session(self, **how):
         return Peer(self.port, **how)
