@@ -14,7 +14,7 @@ use Rattle.shell_walks.specs.declared.remote.Listed.{Listed}
 use Rattle.shell_walks.specs.declared.remote.Why.{Why}
 use Rattle.shell_walks.specs.declared.tasks.Task.{Task}
 use Rattle.shell_walks.specs.declared.tasks.Task.TheVariants as task
-use Rattle.shell_commands.specs.Getting.{ClearsIf, GetsAs, GetsAt, GetsElse, GetsFile, GetsIfDeep, GetsIfListed, GetsInto, GetsKind, is_here, MakesIf, misplaced, not_deep_as, not_into_as, Unlisted}
+use Rattle.shell_commands.specs.Getting.{ClearsIf, GetsAs, GetsUnless, GetsElse, GetsFile, GetsIfDeep, GetsIfListed, GetsInto, GetsKind, is_here, MakesIf, misplaced, not_deep_as, not_into_as, Unlisted}
 use Rattle.path_commands.specs.Placing.{is_no_directory}
 use Rattle.shell_commands.specs.Visiting.{AllCome, CountsGot, CountsGot.fetched, CountsGot.not_fetched, EndsGet, faulty_as, is_directory_for, RefusesGet, Touches}
 use Rattle.shell_commands.specs.declared.visiting.Visited.{Visited}
@@ -92,7 +92,7 @@ kind_comes asks content offers finds reads writes makes tries clears old new h h
 kind_comes asks content offers finds reads writes makes tries clears old new h h' path local deep id v kinds.File k = file_comes asks content finds writes makes tries clears k.between new k.here h' path local deep id v k.goes_on
 kind_comes asks content offers finds reads writes makes tries clears old new h h' path local deep id v kind k = file_comes asks content finds writes makes tries clears old new h h' path local deep id v k
 
-pub at_comes : {R F : Type 0} (asks : R → Command → Answer → R → Type 0) (content : R → ℕ → List ℕ) (offers : R → List ℕ → R → Type 0) (finds : F → List ℕ → Kind → F → Type 0) (reads : F → List ℕ → Result (List ℕ) LocalFault → F → Type 0) (writes : F → List ℕ → List ℕ → Result Unit LocalFault → F → Type 0) (makes tries : F → List ℕ → Result Unit LocalFault → F → Type 0) (clears : F → List ℕ → F → Type 0) (old new : R) (h h' : F) (path : List (List ℕ)) (local : List ℕ) (deep : Bool) (id : Option ℕ) (v : Visited) (b : Bool) → GetsAt asks content offers finds reads writes makes tries clears old h b path local deep id v new h' → Got_so asks content writes tries id path local deep v
+pub at_comes : {R F : Type 0} (asks : R → Command → Answer → R → Type 0) (content : R → ℕ → List ℕ) (offers : R → List ℕ → R → Type 0) (finds : F → List ℕ → Kind → F → Type 0) (reads : F → List ℕ → Result (List ℕ) LocalFault → F → Type 0) (writes : F → List ℕ → List ℕ → Result Unit LocalFault → F → Type 0) (makes tries : F → List ℕ → Result Unit LocalFault → F → Type 0) (clears : F → List ℕ → F → Type 0) (old new : R) (h h' : F) (path : List (List ℕ)) (local : List ℕ) (deep : Bool) (id : Option ℕ) (v : Visited) (b : Bool) → GetsUnless asks content offers finds reads writes makes tries clears old h b path local deep id v new h' → Got_so asks content writes tries id path local deep v
 at_comes asks content offers finds reads writes makes tries clears old new h h' path local deep id v true k = uncounted asks content writes tries path local deep id v (listed_fine asks finds makes clears k.between new h h' path local deep id v k.listing k.goes_on)
 at_comes asks content offers finds reads writes makes tries clears old new h h' path local deep id v false k = kind_comes asks content offers finds reads writes makes tries clears old new k.here h' path local deep id v k.kind k.goes_on
 
@@ -135,6 +135,6 @@ kind_touches asks content offers finds reads writes lists makes tries clears old
 kind_touches asks content offers finds reads writes lists makes tries clears old new h h' path local deep id v kinds.File k = both local h k.here h' (only_read local k.first.bytes h k.here k.first.read) (file_touches asks content finds reads writes lists makes tries clears k.between new k.here h' path local deep id v k.goes_on)
 kind_touches asks content offers finds reads writes lists makes tries clears old new h h' path local deep id v kind k = file_touches asks content finds reads writes lists makes tries clears old new h h' path local deep id v k
 
-pub at_touches : {R F : Type 0} (asks : R → Command → Answer → R → Type 0) (content : R → ℕ → List ℕ) (offers : R → List ℕ → R → Type 0) (finds : F → List ℕ → Kind → F → Type 0) (reads : F → List ℕ → Result (List ℕ) LocalFault → F → Type 0) (writes : F → List ℕ → List ℕ → Result Unit LocalFault → F → Type 0) (lists : F → List ℕ → Result (List (List ℕ)) LocalFault → F → Type 0) (makes tries : F → List ℕ → Result Unit LocalFault → F → Type 0) (clears : F → List ℕ → F → Type 0) (old new : R) (h h' : F) (path : List (List ℕ)) (local : List ℕ) (deep : Bool) (id : Option ℕ) (v : Visited) (b : Bool) → GetsAt asks content offers finds reads writes makes tries clears old h b path local deep id v new h' → Touches finds reads writes lists makes tries clears local h h'
+pub at_touches : {R F : Type 0} (asks : R → Command → Answer → R → Type 0) (content : R → ℕ → List ℕ) (offers : R → List ℕ → R → Type 0) (finds : F → List ℕ → Kind → F → Type 0) (reads : F → List ℕ → Result (List ℕ) LocalFault → F → Type 0) (writes : F → List ℕ → List ℕ → Result Unit LocalFault → F → Type 0) (lists : F → List ℕ → Result (List (List ℕ)) LocalFault → F → Type 0) (makes tries : F → List ℕ → Result Unit LocalFault → F → Type 0) (clears : F → List ℕ → F → Type 0) (old new : R) (h h' : F) (path : List (List ℕ)) (local : List ℕ) (deep : Bool) (id : Option ℕ) (v : Visited) (b : Bool) → GetsUnless asks content offers finds reads writes makes tries clears old h b path local deep id v new h' → Touches finds reads writes lists makes tries clears local h h'
 at_touches asks content offers finds reads writes lists makes tries clears old new h h' path local deep id v true k = listed_touches asks finds reads writes lists makes tries clears k.between new h h' path local v k.listing k.goes_on
 at_touches asks content offers finds reads writes lists makes tries clears old new h h' path local deep id v false k = first_found local k.kind h k.here h' k.found (kind_touches asks content offers finds reads writes lists makes tries clears old new k.here h' path local deep id v k.kind k.goes_on)

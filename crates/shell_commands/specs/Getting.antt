@@ -164,6 +164,10 @@ pub record GetsFound {R F : Type 0} (asks : R → Command → Answer → R → T
 abbrev pub is_root : (deep : Bool) → (path : List (List ℕ)) → Bool
 is_root deep path = deep && (length path == 0)
 
-abbrev pub GetsAt : {R F : Type 0} → (asks : R → Command → Answer → R → Type 0) → (content : R → ℕ → List ℕ) → (offers : R → List ℕ → R → Type 0) → (finds : F → List ℕ → Kind → F → Type 0) → (reads : F → List ℕ → Result (List ℕ) LocalFault → F → Type 0) → (writes : F → List ℕ → List ℕ → Result Unit LocalFault → F → Type 0) → (makes tries : F → List ℕ → Result Unit LocalFault → F → Type 0) → (clears : F → List ℕ → F → Type 0) → R → F → (is_root : Bool) → (path : List (List ℕ)) → (local : List ℕ) → (deep : Bool) → Option ℕ → Visited → R → F → Type 0
-GetsAt asks content offers finds reads writes makes tries clears old host true path local deep id v new host' = GetsDirectory asks finds makes clears old host path local v new host'
-GetsAt asks content offers finds reads writes makes tries clears old host false path local deep id v new host' = GetsFound asks content offers finds reads writes makes tries clears old host path local deep id v new host'
+abbrev pub GetsUnless : {R F : Type 0} → (asks : R → Command → Answer → R → Type 0) → (content : R → ℕ → List ℕ) → (offers : R → List ℕ → R → Type 0) → (finds : F → List ℕ → Kind → F → Type 0) → (reads : F → List ℕ → Result (List ℕ) LocalFault → F → Type 0) → (writes : F → List ℕ → List ℕ → Result Unit LocalFault → F → Type 0) → (makes tries : F → List ℕ → Result Unit LocalFault → F → Type 0) → (clears : F → List ℕ → F → Type 0) → R → F → (is_root : Bool) → (path : List (List ℕ)) → (local : List ℕ) → (deep : Bool) → Option ℕ → Visited → R → F → Type 0
+GetsUnless asks content offers finds reads writes makes tries clears old host true path local deep id v new host' = GetsDirectory asks finds makes clears old host path local v new host'
+GetsUnless asks content offers finds reads writes makes tries clears old host false path local deep id v new host' = GetsFound asks content offers finds reads writes makes tries clears old host path local deep id v new host'
+
+-- what has the path goes to the path of the host's
+abbrev pub GetsAt : {R F : Type 0} → (asks : R → Command → Answer → R → Type 0) → (content : R → ℕ → List ℕ) → (offers : R → List ℕ → R → Type 0) → (finds : F → List ℕ → Kind → F → Type 0) → (reads : F → List ℕ → Result (List ℕ) LocalFault → F → Type 0) → (writes : F → List ℕ → List ℕ → Result Unit LocalFault → F → Type 0) → (makes tries : F → List ℕ → Result Unit LocalFault → F → Type 0) → (clears : F → List ℕ → F → Type 0) → R → F → (path : List (List ℕ)) → (local : List ℕ) → (deep : Bool) → Option ℕ → Visited → R → F → Type 0
+GetsAt asks content offers finds reads writes makes tries clears old host path local deep id v new host' = GetsUnless asks content offers finds reads writes makes tries clears old host (is_root deep path) path local deep id v new host'

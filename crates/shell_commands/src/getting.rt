@@ -409,7 +409,7 @@ fn get_at<R: Remote, F: Folder>(
     local: &str,
     deep: bool,
 ) -> Result<Visited, AllocError>
-    ensures { IfOk result (λ v. GetsAt R.asks R.content R.offers F.finds F.reads F.writes F.makes F.tries F.clears remote.old folder.old (is_root deep path.now) path.now local.now deep id v remote.new folder.new) }
+    ensures { IfOk result (λ v. GetsAt R.asks R.content R.offers F.finds F.reads F.writes F.makes F.tries F.clears remote.old folder.old path.now local.now deep id v remote.new folder.new) }
 {
     if is_root(deep, path) {
         get_directory(alloc, remote, folder, path, local)
@@ -428,7 +428,7 @@ pub(crate) fn visit_get<R: Remote, F: Folder>(
     local: &str,
     deep: bool,
 ) -> Result<Visited, AllocError>
-    ensures exact { IfOk result (λ v. GetsAt R.asks R.content R.offers F.finds F.reads F.writes F.makes F.tries F.clears remote.old folder.old (is_root deep path.now) path.now local.now deep id v remote.new folder.new) }
+    ensures exact { IfOk result (λ v. GetsAt R.asks R.content R.offers F.finds F.reads F.writes F.makes F.tries F.clears remote.old folder.old path.now local.now deep id v remote.new folder.new) }
     ensures come { IfOk result (λ v. AllCome (tasks.Get path.now local.now deep id) v.more) }
     ensures touches { OnOk result (Touches F.finds F.reads F.writes F.lists F.makes F.tries F.clears local.now folder.old folder.new) }
     ensures counts { IfOk result (λ v. CountsGot R.asks R.content F.writes F.tries id path.now local.now v) }

@@ -6,7 +6,8 @@ ghost use Rattle.shell_walks.specs.Storing.{Offers, PutsBytes, is_closed, is_com
 ghost use Rattle.shell_walks.specs.Telling.{is_dir, is_off, unstored_text, why_of};
 ghost use Rattle.path_commands.specs.Placing.{no_place};
 ghost use Rattle.shell_commands.specs.Putting.{again_if, in_known, in_listed, in_unknown, in_unlisted, inner, is_relisted, once_more, placed, stored_as, stored_news, unlisted_note, with_removals};
-ghost use Rattle.shell_commands.specs.Putting.{Puts, PutsAfter, PutsAt, PutsCompared, PutsDeep, PutsElse, PutsFile, PutsFolder, PutsInto, PutsKind, PutsNames, PutsOver, PutsPlaced, PutsRead, PutsUnless, PutsWithin};
+ghost use Rattle.shell_commands.specs.Putting.{Puts, PutsAfter, PutsAt, PutsCompared, PutsDeep, PutsElse, PutsFile, PutsFolder, PutsInto, PutsKind, PutsNames};
+ghost use Rattle.shell_commands.specs.Putting.{PutsOver, PutsPlaced, PutsRead, PutsUnless, PutsWithin};
 ghost use Rattle.shell_commands.specs.Visiting.{AllCome, CountsPut, said_of, SparesPut, Touches};
 ghost use Rattle.shell_walks.specs.declared.tasks.Task.TheVariants as tasks;
 
