@@ -1,5 +1,6 @@
 pub mod Getting
 pub mod Lines
 pub mod Putting
+pub mod Rows
 pub mod Tasks
 pub mod Visiting

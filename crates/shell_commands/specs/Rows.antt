@@ -1,0 +1,25 @@
+-- Worked rows of what tasks come to.
+use Rattle.std.specs.Prelude.{◌≡◌, [], ◌∷◌, true, false, Some, None, codes, refl}
+use Rattle.shell_walks.specs.declared.remote.Answer.TheVariants as answer
+use Rattle.shell_walks.specs.declared.remote.Why.TheVariants as why
+use Rattle.shell_walks.specs.declared.tasks.Storing.{Storing}
+use Rattle.shell_walks.specs.declared.tasks.Task.TheVariants as task
+use Rattle.shell_commands.specs.Putting.{again_if, in_listed, stored_as}
+use Rattle.shell_commands.specs.Visiting.{removed_as}
+
+abbrev cleaning : Storing
+cleaning = record { deep = true; changed_only = true; deletes = true; fresh = false; inner = true; id = None }
+
+-- no server answers to a listing: that is said, also where nothing would have gone
+pub no_listing : in_listed (codes "h") (codes "d" ∷ []) (record cleaning { deletes = false }) [] (answer.Failed why.NoLink) [] ≡ record { more = []; note = codes "/d: no server answers (is lbfs share, or ssh -L, running yet?)\n"; news = []; files = 0; bytes = 0; is_off = true; left = 0 }
+no_listing = refl
+
+-- a directory that went for a file, and one of which 5 things stay
+pub comes_again : removed_as (again_if true (codes "h/a") (codes "d" ∷ codes "a" ∷ []) (record cleaning { id = Some 7 })) (record { said = record { note = []; news = codes "/d/a: removed\n"; is_off = false }; left = 0 }) ≡ record { more = task.Put (codes "h/a") (codes "d" ∷ codes "a" ∷ []) (record cleaning { deletes = false; fresh = true }) ∷ []; note = []; news = codes "/d/a: removed\n"; files = 0; bytes = 0; is_off = false; left = 0 }
+comes_again = refl
+
+pub stays : removed_as (again_if false (codes "h/a") (codes "d" ∷ codes "a" ∷ []) cleaning) (record { said = record { note = codes "/d/a/x: it stays\n"; news = []; is_off = true }; left = 5 }) ≡ record { more = []; note = codes "/d/a/x: it stays\n"; news = []; files = 0; bytes = 0; is_off = true; left = 5 }
+stays = refl
+
+pub synced : stored_as (codes "a" ∷ []) true 3 ≡ record { more = []; note = []; news = codes "/a: stored\n"; files = 1; bytes = 3; is_off = false; left = 0 }
+synced = refl
