@@ -1,8 +1,8 @@
 -- What tasks leave alone, and which come of them.
-use Rattle.std.proofs.Common.{◌≡◌, refl, sym, subst, ◌∙◌, ℕ, ◌+◌, List, [], ◌∷◌, ◌++◌, slice_get, Bool, true, false, cond, bytes_eq, Option, Some, None, Result, Ok, Err, inr, ◌||◌}
+use Rattle.std.proofs.Common.{◌≡◌, refl, sym, subst, ◌∙◌, ℕ, ◌+◌, List, [], ◌∷◌, ◌++◌, slice_get, Bool, true, false, cond, bytes_eq, Option, Some, None, Result, Ok, Err, inr, ◌||◌, not}
 use Rattle.command_text.specs.declared.command.Command.{Command}
 use Rattle.shell_words.specs.Local.{below}
-use Rattle.shell_words.specs.Temporary.{is_carried, is_temporary}
+use Rattle.shell_words.specs.Temporary.{is_carried}
 use Rattle.shell_walks.specs.Fetching.{Gets, GetsAfter, GetsIf, Fetches}
 use Rattle.shell_walks.specs.Storing.{opened_file}
 use Rattle.shell_walks.specs.Tasks.{unlisted, known, put_more, put_tasks, put_known, get_more, get_tasks, is_among, remove_more, removals}
@@ -51,14 +51,14 @@ pub gets_come : (path : List (List ℕ)) (local : List ℕ) (deep : Bool) (old :
 gets_come path local deep old ids at [] = tt
 gets_come path local deep old ids at (name ∷ names) = join (task.Get path local deep old) (get_more path local (slice_get ids at) name) (get_tasks path local ids (at + 1) names) (get_of path local deep (slice_get ids at) old name (is_carried name) refl) (gets_come path local deep old ids (at + 1) names)
 
-removal_of : (local : List ℕ) (path : List (List ℕ)) (s : Storing) (name : List ℕ) (a b : Bool) → s.deletes ≡ true → is_temporary name ≡ b → AllCome (task.Put local path s) (cond (a || b) [] (task.Remove (path ++ name ∷ []) ∷ []))
+removal_of : (local : List ℕ) (path : List (List ℕ)) (s : Storing) (name : List ℕ) (a b : Bool) → s.deletes ≡ true → is_carried name ≡ b → AllCome (task.Put local path s) (cond (a || not b) [] (task.Remove (path ++ name ∷ []) ∷ []))
 removal_of local path s name true b may is = tt
-removal_of local path s name false true may is = tt
-removal_of local path s name false false may is = ((may, name, is, refl), tt)
+removal_of local path s name false false may is = tt
+removal_of local path s name false true may is = ((may, name, is, refl), tt)
 
 pub removals_come : (local : List ℕ) (path : List (List ℕ)) (s : Storing) (held names : List (List ℕ)) → s.deletes ≡ true → AllCome (task.Put local path s) (removals path held names)
 removals_come local path s held [] may = tt
-removals_come local path s held (name ∷ names) may = join (task.Put local path s) (remove_more path held name) (removals path held names) (removal_of local path s name (is_among name held) (is_temporary name) may refl) (removals_come local path s held names may)
+removals_come local path s held (name ∷ names) may = join (task.Put local path s) (remove_more path held name) (removals path held names) (removal_of local path s name (is_among name held) (is_carried name) may refl) (removals_come local path s held names may)
 
 -- ---- calls of the host's files
 

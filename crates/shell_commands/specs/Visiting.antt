@@ -167,7 +167,7 @@ IsOnceMore local path s local' path' s' = (local' ≡ local) × (path' ≡ path)
 -- what removes, or may, comes of what may alone
 abbrev pub ComesOf : Task → Task → Type 0
 ComesOf (task.Put local path s) (task.Put local' path' s') = IsOnceMore local path s local' path' s' ⊎ ((s'.deletes ≡ true → s.deletes ≡ true) × IsNamedIn local path local' path')
-ComesOf (task.Put local path s) (task.Remove path') = (s.deletes ≡ true) × (name : List ℕ) × (is_temporary name ≡ false) × (path' ≡ path ++ name ∷ [])
+ComesOf (task.Put local path s) (task.Remove path') = (s.deletes ≡ true) × (name : List ℕ) × (is_carried name ≡ true) × (path' ≡ path ++ name ∷ [])
 ComesOf (task.Get path local deep id) (task.Get path' local' deep' id') = IsNamedIn local path local' path'
 ComesOf t t' = ⊥
 

@@ -1,7 +1,7 @@
 -- The tasks for what is in a folder, or in a directory: one for each of its names, and for no other.
-use Rattle.std.specs.Prelude.{ℕ, ◌+◌, List, [], ◌∷◌, ◌++◌, slice_get, Option, None, Bool, true, ◌||◌, false, bytes_eq, if◌then◌else◌}
+use Rattle.std.specs.Prelude.{ℕ, ◌+◌, List, [], ◌∷◌, ◌++◌, slice_get, Option, None, Bool, true, ◌||◌, false, not, bytes_eq, if◌then◌else◌}
 use Rattle.shell_words.specs.Local.{below}
-use Rattle.shell_words.specs.Temporary.{is_carried, is_temporary}
+use Rattle.shell_words.specs.Temporary.{is_carried}
 use Rattle.shell_walks.specs.declared.remote.Listed.{Listed}
 use Rattle.shell_walks.specs.declared.tasks.Storing.{Storing}
 use Rattle.shell_walks.specs.declared.tasks.Task.{Task}
@@ -43,9 +43,9 @@ abbrev pub is_among : List ℕ → List (List ℕ) → Bool
 is_among name [] = false
 is_among name (other ∷ names) = bytes_eq other name || is_among name names
 
--- what the folder has too, and what wouldn't have been stored from there
+-- what the folder has too, and what goes no way between both
 abbrev pub stays_there : (held : List (List ℕ)) → (name : List ℕ) → Bool
-stays_there held name = is_among name held || is_temporary name
+stays_there held name = is_among name held || not (is_carried name)
 
 abbrev pub remove_more : (path held : List (List ℕ)) → (name : List ℕ) → List Task
 remove_more path held name = if stays_there held name then [] else task.Remove (path ++ name ∷ []) ∷ []

@@ -2,6 +2,7 @@
 //! come from it. `specs/Tasks.antt` says which.
 
 ghost use Rattle.std.specs.Prelude.{◌≡◌, ◌++◌, ◌∷◌, [], IfOk, OnOk, slice_get};
+ghost use Rattle.shell_words.specs.Temporary.{is_carried};
 ghost use Rattle.shell_walks.specs.Tasks.{unlisted, known, put_more, put_tasks, put_known, get_more, get_tasks, is_among, remove_more, removals, stays_there};
 
 use crate::remote::Listed;
@@ -10,7 +11,7 @@ use command_text::words::is;
 use lb_base::items::{Items, Name};
 use shell_words::local::LocalPath;
 use shell_words::path::copy_of;
-use shell_words::temporary::{carried_name, is_temporary};
+use shell_words::temporary::carried_name;
 use std::alloc::{AllocError, Global};
 
 /// How things are stored.
@@ -256,11 +257,21 @@ fn is_among(name: &[u8], names: &[Name]) -> bool
     false
 }
 
-/// Whether what has a name stays: the folder has it too, or it is one that wouldn't have been stored from there.
+/// Whether a name goes between a folder and a directory.
+fn is_carried(name: &[u8]) -> bool
+    ensures { result ≡ is_carried name.now }
+{
+    match carried_name(name) {
+        Some(_) => true,
+        None => false,
+    }
+}
+
+/// Whether what has a name stays: the folder has it too, or it is one that no folder here can give or get.
 fn stays_there(held: &[Name], name: &[u8]) -> bool
     ensures { result ≡ stays_there held.now name.now }
 {
-    is_among(name, held) || is_temporary(name)
+    is_among(name, held) || !is_carried(name)
 }
 
 /// The task that removes what has a name, unless that stays, goes behind those that there are.
@@ -280,8 +291,8 @@ fn remove_more(
     Ok(())
 }
 
-/// The tasks that remove what a folder hasn't: those of the directory's names that are none of these, nor of the
-/// form that a stopped fetch leaves.
+/// The tasks that remove what a folder hasn't: those of the directory's names that are none of these, and that go
+/// between both.
 pub fn put_removals(
     alloc: Global,
     tasks: &mut Items<Task>,
