@@ -1,5 +1,5 @@
 -- What a command about paths of the server comes to, over what a client does at any command (`asks`): which commands of the client it makes, in which order, and what is told.
-use Rattle.std.specs.Prelude.{◌≡◌, ℕ, ◌+◌, ◌==◌, ◌<◌, List, [], ◌∷◌, ◌++◌, length, take, Bool, true, false, codes, if◌then◌else◌}
+use Rattle.std.specs.Prelude.{◌≡◌, ℕ, ◌+◌, ◌-◌, ◌==◌, ◌<◌, ◌||◌, List, [], ◌∷◌, ◌++◌, get_or, length, take, Bool, true, false, not, codes, if◌then◌else◌}
 use Rattle.command_text.specs.declared.command.Command.{Command}
 use Rattle.shell_words.specs.Quoting.{quoted}
 use Rattle.shell_words.specs.declared.command.Verb.{Verb}
@@ -7,7 +7,7 @@ use Rattle.shell_words.specs.declared.command.Verb.TheVariants as verb
 use Rattle.shell_walks.specs.Asking.{command_on, rename_of, AsksOn}
 use Rattle.shell_walks.specs.Fetching.{Cats}
 use Rattle.shell_walks.specs.Removing.{RemovesAll as GoesWith}
-use Rattle.shell_walks.specs.Telling.{done_told, fine, left_text, long_line, names_told, note_line, notes, path_text, refused_told, removed_told, stat_told, why_of, why_text}
+use Rattle.shell_walks.specs.Telling.{done_told, fine, is_off, left_text, long_line, names_told, note_line, notes, path_text, refused_told, removed_told, stat_told, why_of, why_text}
 use Rattle.shell_walks.specs.declared.asking.Deed.{Deed}
 use Rattle.shell_walks.specs.declared.asking.Deed.TheVariants as deed
 use Rattle.shell_walks.specs.declared.remote.Answer.{Answer}
@@ -35,15 +35,41 @@ pub record RemovesFile {R : Type 0} (asks : R → Command → Answer → R → T
   pub asked : AsksOn asks old (command_on deed.Remove path) answer new
   pub is_told : told ≡ removed_told path answer
 
+-- ---- what stands at a path, by a look
+
 -- whether it was told to be a directory
 abbrev pub is_dir_told : Answer → Bool
 is_dir_told (answer.Seen seen) = seen.is_dir
 is_dir_told a = false
 
-pub record LooksWhether {R : Type 0} (asks : R → Command → Answer → R → Type 0) (old : R) (path : List (List ℕ)) (b : Bool) (new : R) : Type 0 where
-  pub answer : Answer
-  pub asked : AsksOn asks old (command_on deed.Look path) answer new
-  pub is : b ≡ is_dir_told answer
+-- NFS3ERR_NOENT
+abbrev pub is_missing_for : Why → Bool
+is_missing_for (why.Refused n) = n == 2
+is_missing_for w = false
+
+abbrev pub is_missing : Answer → Bool
+is_missing (answer.Failed w) = is_missing_for w
+is_missing a = false
+
+-- no directory does: nothing, or a file stands on the way (NFS3ERR_NOTDIR), which the command's own answer says
+abbrev pub is_free_for : Why → Bool
+is_free_for (why.Refused n) = (n == 2) || (n == 20)
+is_free_for w = false
+
+-- whether the look told it. One that failed otherwise (no connection, no memory at the server) tells nothing: the command ends there
+abbrev pub is_known : Answer → Bool
+is_known (answer.Seen seen) = true
+is_known (answer.Failed w) = is_free_for w
+is_known a = false
+
+-- where a directory is wanted
+abbrev pub made_told : (path : List (List ℕ)) → (is_dir : Bool) → Told
+made_told path true = fine []
+made_told path false = refused_told path (why.Refused 20)
+
+abbrev pub directory_told : (path : List (List ℕ)) → Answer → Told
+directory_told path (answer.Seen seen) = made_told path seen.is_dir
+directory_told path a = refused_told path (why_of a)
 
 -- ---- ls
 
@@ -70,17 +96,31 @@ abbrev pub ListsFile : {R : Type 0} → (asks : R → Command → Answer → R �
 ListsFile asks old true long path w told new = LooksAt asks old long path w told new
 ListsFile asks old false long path w told new = (new ≡ old) × (told ≡ refused_told path w)
 
--- a line for each name that was told, of what it is told to stand for, one after the other
+-- a line for each name that was told, of what it is told to stand for
 abbrev pub with_long : (path : List (List ℕ)) → (name : List ℕ) → Told → Answer → Told
 with_long path name told (answer.Seen seen) = record told { text = told.text ++ long_line seen (quoted name) }
 with_long path name told a = record told { note = told.note ++ note_line (path_text (path ++ name ∷ [])) (why_text (why_of a)) }
 
+-- whether a server answered at all
+abbrev pub is_answered : Answer → Bool
+is_answered a = not (is_off (why_of a))
+
+-- these names were looked at, one after the other, and each was answered
 pub data Longs {R : Type 0} (asks : R → Command → Answer → R → Type 0) (old : R) (path : List (List ℕ)) : List (List ℕ) → Told → R → Type 0 where
   none : (names : List (List ℕ)) (told : Told) (s : R) → names ≡ [] → told ≡ fine [] → s ≡ old → Longs asks old path names told s
-  one : (names more : List (List ℕ)) (name : List ℕ) (told after : Told) (s t : R) (a : Answer) → Longs asks old path names told s → AsksOn asks s (command_on deed.Look (path ++ name ∷ [])) a t → after ≡ with_long path name told a → more ≡ names ++ name ∷ [] → Longs asks old path more after t
+  one : (names more : List (List ℕ)) (name : List ℕ) (told after : Told) (s t : R) (a : Answer) → Longs asks old path names told s → AsksOn asks s (command_on deed.Look (path ++ name ∷ [])) a t → is_answered a ≡ true → after ≡ with_long path name told a → more ≡ names ++ name ∷ [] → Longs asks old path more after t
+
+-- how many weren't looked at is said once, behind what was told
+abbrev pub with_left : ℕ → Told → Told
+with_left n told = record told { note = told.note ++ left_text n }
+
+-- all were, or behind the first that no server answers none is any more
+pub data ListsLong {R : Type 0} (asks : R → Command → Answer → R → Type 0) (old : R) (path names : List (List ℕ)) (told : Told) (new : R) : Type 0 where
+  all : Longs asks old path names told new → ListsLong asks old path names told new
+  stopped : (at : ℕ) (name : List ℕ) (before : Told) (s : R) (a : Answer) → at < length names → name ≡ get_or names at name → Longs asks old path (take at names) before s → AsksOn asks s (command_on deed.Look (path ++ name ∷ [])) a new → is_answered a ≡ false → told ≡ with_left (length names - (at + 1)) (with_long path name before a) → ListsLong asks old path names told new
 
 abbrev pub ListsOn : {R : Type 0} → (asks : R → Command → Answer → R → Type 0) → R → (is_long : Bool) → List (List ℕ) → Answer → Told → R → Type 0
-ListsOn asks old true path (answer.Names l) told new = Longs asks old path l.names told new
+ListsOn asks old true path (answer.Names l) told new = ListsLong asks old path l.names told new
 ListsOn asks old false path (answer.Names l) told new = (new ≡ old) × (told ≡ names_told path (answer.Names l))
 ListsOn asks old long path a told new = ListsFile asks old (is_file (why_of a)) long path (why_of a) told new
 
@@ -107,14 +147,31 @@ pub data Makes {R : Type 0} (asks : R → Command → Answer → R → Type 0) (
   none : (count : ℕ) (s : R) → count ≡ 0 → s ≡ old → Makes asks old path count s
   one : (count : ℕ) (s t : R) (a : Answer) → Makes asks old path count s → AsksOn asks s (command_on deed.MakeDir (take (count + 1) path)) a t → is_there a ≡ true → Makes asks old path (count + 1) t
 
-abbrev pub made_told : (path : List (List ℕ)) → (is_dir : Bool) → Told
-made_told path true = fine []
-made_told path false = refused_told path (why.Refused 20)
-
 -- the first that isn't made is the last; else it is looked at whether all of it is a directory
 pub data MakesAll {R : Type 0} (asks : R → Command → Answer → R → Type 0) (old : R) (path : List (List ℕ)) (told : Told) (new : R) : Type 0 where
   stopped : (count : ℕ) (s : R) (a : Answer) → Makes asks old path count s → AsksOn asks s (command_on deed.MakeDir (take (count + 1) path)) a new → is_there a ≡ false → told ≡ refused_told (take (count + 1) path) (why_of a) → MakesAll asks old path told new
-  made : (s : R) (is_dir : Bool) → Makes asks old path (length path) s → LooksWhether asks s path is_dir new → told ≡ made_told path is_dir → MakesAll asks old path told new
+  made : (s : R) (looked : Answer) → Makes asks old path (length path) s → AsksOn asks s (command_on deed.Look path) looked new → told ≡ directory_told path looked → MakesAll asks old path told new
+
+-- ---- the directories above what is stored: made where the look at the last of them says that there is none
+
+abbrev pub way_told : (is_known : Bool) → (above : List (List ℕ)) → Answer → Told
+way_told true above looked = fine []
+way_told false above looked = refused_told above (why_of looked)
+
+abbrev pub WayIf : {R : Type 0} → (asks : R → Command → Answer → R → Type 0) → R → (is_missing : Bool) → (above : List (List ℕ)) → Answer → Told → R → Type 0
+WayIf asks old true above looked told new = MakesAll asks old above told new
+WayIf asks old false above looked told new = (new ≡ old) × (told ≡ way_told (is_known looked) above looked)
+
+pub record LooksAbove {R : Type 0} (asks : R → Command → Answer → R → Type 0) (old : R) (above : List (List ℕ)) (told : Told) (new : R) : Type 0 where
+  pub looked : Answer
+  pub between : R
+  pub looks : AsksOn asks old (command_on deed.Look above) looked between
+  pub goes_on : WayIf asks between (is_missing looked) above looked told new
+
+-- the root is there
+abbrev pub MakesWay : {R : Type 0} → (asks : R → Command → Answer → R → Type 0) → R → (above : List (List ℕ)) → Told → R → Type 0
+MakesWay asks old [] told new = (new ≡ old) × (told ≡ fine [])
+MakesWay asks old (name ∷ names) told new = LooksAbove asks old (name ∷ names) told new
 
 -- ---- rm
 
@@ -160,12 +217,17 @@ pub record Renames {R : Type 0} (asks : R → Command → Answer → R → Type 
   pub asked : AsksOn asks old (rename_of from to) answer between
   pub goes_on : TellsRename asks between (is_refused answer) from to answer told new
 
+-- where it isn't known what has the second path nothing is renamed
+abbrev pub MovesIf : {R : Type 0} → (asks : R → Command → Answer → R → Type 0) → R → (is_known : Bool) → (from to : List (List ℕ)) → Answer → Told → R → Type 0
+MovesIf asks old true from to looked told new = Renames asks old from (place_of to from (is_dir_told looked)) told new
+MovesIf asks old false from to looked told new = (new ≡ old) × (told ≡ refused_told to (why_of looked))
+
 -- into the directory that has the second path, where one has it
 pub record Moves {R : Type 0} (asks : R → Command → Answer → R → Type 0) (old : R) (from to : List (List ℕ)) (told : Told) (new : R) : Type 0 where
-  pub is_dir : Bool
+  pub looked : Answer
   pub between : R
-  pub looks : LooksWhether asks old to is_dir between
-  pub renames : Renames asks between from (place_of to from is_dir) told new
+  pub looks : AsksOn asks old (command_on deed.Look to) looked between
+  pub goes_on : MovesIf asks between (is_known looked) from to looked told new
 
 -- ---- a command on one path
 

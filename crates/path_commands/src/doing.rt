@@ -4,8 +4,9 @@ ghost use Rattle.std.specs.Prelude.{◌≡◌, ◌∷◌, ◌++◌, [], IfOk, On
 ghost use Rattle.shell_walks.specs.Asking.{command_on, AsksOn};
 ghost use Rattle.shell_walks.specs.Telling.{left_text, notes};
 ghost use Rattle.shell_walks.specs.declared.asking.Deed.TheVariants as deeds;
-ghost use Rattle.path_commands.specs.Doing.{Does, Stats, RemovesFile, LooksWhether, is_dir_told, file_text, file_told, LooksAt, is_file, ListsFile, with_long, Longs, ListsOn, Lists, is_there};
-ghost use Rattle.path_commands.specs.Doing.{made_told, MakesAll, RemovesAll, last_of, named_in, place_of, is_refused, at_fault, LooksBack, TellsRename, Renames, Moves, OnPath};
+ghost use Rattle.path_commands.specs.Doing.{Does, Stats, RemovesFile, is_dir_told, is_missing, is_known, made_told, directory_told, file_text, file_told, LooksAt, is_file, ListsFile};
+ghost use Rattle.path_commands.specs.Doing.{with_long, is_answered, with_left, ListsLong, ListsOn, Lists, is_there, MakesAll, way_told, WayIf, LooksAbove, MakesWay};
+ghost use Rattle.path_commands.specs.Doing.{RemovesAll, last_of, named_in, place_of, is_refused, at_fault, LooksBack, TellsRename, Renames, MovesIf, Moves, OnPath};
 
 use command_text::path::Path;
 use lb_base::items::{Bytes, Items, Name};
@@ -15,15 +16,17 @@ use shell_walks::remote::{Answer, Remote, Seen, Why};
 use shell_walks::removing::{Gone, remove_all};
 use shell_walks::tasks::longer;
 use shell_walks::telling::{
-    done_told, left_text, long_line, names_told, path_line, path_text, put_why, refused_told,
-    removed_told, stat_told, why_of,
+    done_told, is_off, left_text, long_line, names_told, path_line, path_text, put_why,
+    refused_told, removed_told, stat_told, why_of,
 };
 use shell_walks::told::{Told, fine, notes};
 use shell_words::command::Verb;
 use shell_words::quoting::quoted;
 use std::alloc::{AllocError, Global};
 
-/// NFS3ERR_NOTDIR.
+/// NFS3ERR_NOENT, NFS3ERR_NOTDIR.
+const NOENT: u32 = 2;
+
 const NOTDIR: u32 = 20;
 
 /// One command, which has nothing to tell.
@@ -57,16 +60,44 @@ pub fn is_dir_told(answer: &Answer) -> bool
     }
 }
 
-/// What a path stands for is looked at.
-pub fn is_directory<R: Remote>(
-    alloc: Global,
-    remote: &mut R,
-    path: &[Name],
-) -> Result<bool, AllocError>
-    ensures { IfOk result (λ b. LooksWhether R.asks remote.old path.now b remote.new) }
+/// Whether a look says that nothing has the path.
+fn is_missing(looked: &Answer) -> bool
+    ensures { result ≡ is_missing looked.now }
 {
-    let answer = ask_on(alloc, remote, Deed::Look, path)?;
-    Ok(is_dir_told(&answer))
+    matches!(looked, Answer::Failed(Why::Refused(NOENT)))
+}
+
+/// Whether a look told what stands at a path, and be it that no directory does. Where it failed otherwise a
+/// directory may stand there, so nothing is stored at that path, nor renamed to it.
+pub fn is_known(looked: &Answer) -> bool
+    ensures { result ≡ is_known looked.now }
+{
+    match looked {
+        Answer::Seen(_) => true,
+        Answer::Failed(Why::Refused(status)) => *status == NOENT || *status == NOTDIR,
+        _ => false,
+    }
+}
+
+/// What is told of a path where a directory is wanted, and something is there.
+fn made_told(alloc: Global, path: &[Name], is_dir: bool) -> Result<Told, AllocError>
+    ensures { IfOk result (λ told. told ≡ made_told path.now is_dir) }
+{
+    if is_dir {
+        Ok(fine(alloc, Items::new(alloc)))
+    } else {
+        refused_told(alloc, path, Why::Refused(NOTDIR))
+    }
+}
+
+/// What is told of a path that was looked at, where a directory is wanted.
+pub fn directory_told(alloc: Global, path: &[Name], looked: &Answer) -> Result<Told, AllocError>
+    ensures { IfOk result (λ told. told ≡ directory_told path.now looked.now) }
+{
+    match looked {
+        Answer::Seen(seen) => made_told(alloc, path, seen.is_dir),
+        looked => refused_told(alloc, path, why_of(looked)),
+    }
 }
 
 /// What is shown of a file that is listed alone.
@@ -175,19 +206,41 @@ fn look_long<R: Remote>(
     ask_on(alloc, remote, Deed::Look, path.as_slice())
 }
 
-/// The names in a directory are looked at, one after the other.
+/// Whether a server answered at all.
+fn is_answered(answer: &Answer) -> bool
+    ensures { result ≡ is_answered answer.now }
+{
+    !is_off(why_of(answer))
+}
+
+/// How many names weren't looked at is said behind what is told.
+fn with_left(alloc: Global, told: Told, left: usize) -> Result<Told, AllocError>
+    ensures { IfOk result (λ t. t ≡ with_left left told) }
+{
+    let text = left_text(alloc, left as u64)?;
+    let mut told = told;
+    told.note.extend_from_slice(text.as_slice())?;
+    Ok(told)
+}
+
+/// The names in a directory are looked at, one after the other. Where no server answers, that is said once,
+/// nothing else is asked for, and how many names are left.
 fn longs<R: Remote>(
     alloc: Global,
     remote: &mut R,
     path: &[Name],
     names: &[Name],
 ) -> Result<Told, AllocError>
-    ensures { IfOk result (λ told. Longs R.asks remote.old path.now names.now told remote.new) }
+    ensures { IfOk result (λ told. ListsLong R.asks remote.old path.now names.now told remote.new) }
 {
     let mut told = fine(alloc, Items::new(alloc));
-    for name in names {
-        let answer = look_long(alloc, remote, path, name.as_slice())?;
-        put_long(alloc, &mut told, path, name.as_slice(), &answer)?;
+    for at in 0..names.len() {
+        let name = names[at].as_slice();
+        let answer = look_long(alloc, remote, path, name)?;
+        put_long(alloc, &mut told, path, name, &answer)?;
+        if !is_answered(&answer) {
+            return with_left(alloc, told, names.len() - (at + 1));
+        }
     }
     Ok(told)
 }
@@ -237,19 +290,8 @@ fn is_there(answer: &Answer) -> bool
     matches!(answer, Answer::Done | Answer::Failed(Why::Refused(17)))
 }
 
-/// What is told where all names of a path are there.
-pub fn made_told(alloc: Global, path: &[Name], is_dir: bool) -> Result<Told, AllocError>
-    ensures { IfOk result (λ told. told ≡ made_told path.now is_dir) }
-{
-    if is_dir {
-        Ok(fine(alloc, Items::new(alloc)))
-    } else {
-        refused_told(alloc, path, Why::Refused(NOTDIR))
-    }
-}
-
 /// `mkdir -p`: each directory on the way is made, where there is none.
-pub fn make_all<R: Remote>(alloc: Global, remote: &mut R, path: &[Name]) -> Result<Told, AllocError>
+fn make_all<R: Remote>(alloc: Global, remote: &mut R, path: &[Name]) -> Result<Told, AllocError>
     ensures { IfOk result (λ told. MakesAll R.asks remote.old path.now told remote.new) }
 {
     for end in 0..path.len() {
@@ -258,8 +300,63 @@ pub fn make_all<R: Remote>(alloc: Global, remote: &mut R, path: &[Name]) -> Resu
             return refused_told(alloc, &path[..end + 1], why_of(&answer));
         }
     }
-    let is_dir = is_directory(alloc, remote, path)?;
-    made_told(alloc, path, is_dir)
+    let looked = ask_on(alloc, remote, Deed::Look, path)?;
+    directory_told(alloc, path, &looked)
+}
+
+/// What is told of the directories above a path, where none is to be made.
+fn way_told(
+    alloc: Global,
+    is_known: bool,
+    above: &[Name],
+    looked: &Answer,
+) -> Result<Told, AllocError>
+    ensures { IfOk result (λ told. told ≡ way_told is_known above.now looked.now) }
+{
+    if is_known {
+        Ok(fine(alloc, Items::new(alloc)))
+    } else {
+        refused_told(alloc, above, why_of(looked))
+    }
+}
+
+/// Directories are made, where the last of them isn't there.
+fn way_if<R: Remote>(
+    alloc: Global,
+    remote: &mut R,
+    is_missing: bool,
+    above: &[Name],
+    looked: &Answer,
+) -> Result<Told, AllocError>
+    ensures { IfOk result (λ told. WayIf R.asks remote.old is_missing above.now looked.now told remote.new) }
+{
+    if is_missing {
+        make_all(alloc, remote, above)
+    } else {
+        way_told(alloc, is_known(looked), above, looked)
+    }
+}
+
+/// The last of the directories above a path is looked at.
+fn look_above<R: Remote>(alloc: Global, remote: &mut R, above: &[Name]) -> Result<Told, AllocError>
+    ensures { IfOk result (λ told. LooksAbove R.asks remote.old above.now told remote.new) }
+{
+    let looked = ask_on(alloc, remote, Deed::Look, above)?;
+    way_if(alloc, remote, is_missing(&looked), above, &looked)
+}
+
+/// The directories above a path are made, where they aren't there.
+pub fn make_way<R: Remote>(
+    alloc: Global,
+    remote: &mut R,
+    above: &[Name],
+) -> Result<Told, AllocError>
+    ensures { IfOk result (λ told. MakesWay R.asks remote.old above.now told remote.new) }
+{
+    match above {
+        [] => Ok(fine(alloc, Items::new(alloc))),
+        [_name, ..] => look_above(alloc, remote, above),
+    }
 }
 
 /// `rm`.
@@ -390,6 +487,25 @@ fn rename<R: Remote>(
     rename_told(alloc, remote, is_refused(&answer), from, to, &answer)
 }
 
+/// What a look at the second path makes of a renaming.
+fn move_if<R: Remote>(
+    alloc: Global,
+    remote: &mut R,
+    is_known: bool,
+    from: &[Name],
+    to: Path,
+    looked: &Answer,
+) -> Result<Told, AllocError>
+    ensures { IfOk result (λ told. MovesIf R.asks remote.old is_known from.now to looked.now told remote.new) }
+{
+    if is_known {
+        let to = place_of(alloc, to, from, is_dir_told(looked))?;
+        rename(alloc, remote, from, to.as_slice())
+    } else {
+        refused_told(alloc, to.as_slice(), why_of(looked))
+    }
+}
+
 /// `mv`: into the directory that has the second path, where one has it.
 pub fn move_to<R: Remote>(
     alloc: Global,
@@ -399,9 +515,8 @@ pub fn move_to<R: Remote>(
 ) -> Result<Told, AllocError>
     ensures { IfOk result (λ told. Moves R.asks remote.old from.now to told remote.new) }
 {
-    let is_dir = is_directory(alloc, remote, to.as_slice())?;
-    let to = place_of(alloc, to, from, is_dir)?;
-    rename(alloc, remote, from, to.as_slice())
+    let looked = ask_on(alloc, remote, Deed::Look, to.as_slice())?;
+    move_if(alloc, remote, is_known(&looked), from, to, &looked)
 }
 
 /// A command on one path of the server.

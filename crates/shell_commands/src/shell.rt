@@ -3,14 +3,17 @@
 
 ghost use Rattle.std.specs.Prelude.{◌≡◌, ◌++◌, codes, IfOk, OnOk};
 ghost use Rattle.shell_words.specs.Local.{whole_path};
+ghost use Rattle.shell_words.specs.Paths.{above};
 ghost use Rattle.shell_words.specs.Quoting.{quoted};
 ghost use Rattle.shell_walks.specs.Telling.{fine, path_text};
-ghost use Rattle.shell_commands.specs.Lines.{of_word, mistaken_as, operand_of, Names, gone_told, gone_to, Goes, MovesTo, IsGet, IsPut, put_storing, sync_storing, DoesPath, RunsNamed, Runs};
+ghost use Rattle.shell_commands.specs.Lines.{of_word, mistaken_as, operand_of, Names, gone_to, Goes, MovesTo, IsGet, put_storing, sync_storing, DoesPath, RunsNamed, Runs};
+ghost use Rattle.shell_commands.specs.Lines.{target_if, target_as, LooksTarget, has_word, TargetsIf, Targets};
+ghost use Rattle.shell_commands.specs.Lines.{is_fine, stored_as, StoresTo, Stores, PutsTo, SyncsTo, PutsFrom, SyncsFrom, RunsPut, RunsSync};
 
 use command_text::path::Path;
 use lb_base::items::{Items, Name};
-use path_commands::doing::{is_dir_told, is_directory, made_told, make_all, move_to, on_path};
-use shell_walks::asking::{Deed, ask_on, is_status};
+use path_commands::doing::{directory_told, is_dir_told, is_known, make_way, move_to, on_path};
+use shell_walks::asking::{Deed, ask_on};
 use shell_walks::folder::{Folder, Kind, LocalFault};
 use shell_walks::remote::{Answer, Remote};
 use shell_walks::tasks::{Storing, Task, longer};
@@ -24,9 +27,6 @@ use shell_words::mistake::{Mistake, ReadError};
 use shell_words::path::{last_of, path_of};
 use shell_words::quoting::quoted;
 use std::alloc::{AllocError, Global};
-
-/// NFS3ERR_NOENT.
-const NOENT: u32 = 2;
 
 /// Where a shell stands.
 #[derive(Drop)]
@@ -99,16 +99,6 @@ fn path_named(alloc: Global, dir: &[Name], word: &[u8]) -> Result<Named, AllocEr
     }
 }
 
-/// What is told of a directory that is gone to.
-fn gone_told(alloc: Global, path: &[Name], answer: &Answer) -> Result<Told, AllocError>
-    ensures { IfOk result (λ told. told ≡ gone_told path.now answer.now) }
-{
-    match answer {
-        Answer::Seen(seen) => made_told(alloc, path, seen.is_dir),
-        answer => refused_told(alloc, path, why_of(answer)),
-    }
-}
-
 /// The directory in which it stands then.
 fn go_to(dir: &mut Path, path: Path, is_dir: bool)
     ensures { dir.new ≡ gone_to dir.old path is_dir }
@@ -128,7 +118,7 @@ fn go<R: Remote>(
     ensures { IfOk result (λ told. Goes R.asks remote.old dir.old path told remote.new dir.new) }
 {
     let answer = ask_on(alloc, remote, Deed::Look, path.as_slice())?;
-    let told = gone_told(alloc, path.as_slice(), &answer)?;
+    let told = directory_told(alloc, path.as_slice(), &answer)?;
     go_to(dir, path, is_dir_told(&answer));
     Ok(told)
 }
@@ -176,17 +166,248 @@ fn folder_of(path: &str) -> &str {
     }
 }
 
-/// The directories above a path are made, where the last of them isn't there.
-fn make_way<R: Remote>(alloc: Global, remote: &mut R, path: &[Name]) -> Result<Told, AllocError> {
-    if path.len() < 2 {
-        return Ok(fine(alloc, Items::new(alloc)));
+/// The path that something is stored to: in a directory, under its own name, and else at the path.
+fn target_if(alloc: Global, is_dir: bool, path: Path, last: &[u8]) -> Result<Path, AllocError>
+    ensures { IfOk result (λ p. p ≡ target_if is_dir path last.now) }
+{
+    if is_dir {
+        longer(alloc, path.as_slice(), last)
+    } else {
+        Ok(path)
     }
-    let above = &path[..path.len() - 1];
-    let looked = ask_on(alloc, remote, Deed::Look, above)?;
-    if is_status(&looked, NOENT) {
-        return make_all(alloc, remote, above);
+}
+
+/// The same by what a look told. Where that failed nothing is stored.
+fn target_as(
+    alloc: Global,
+    is_known: bool,
+    path: Path,
+    last: &[u8],
+    looked: &Answer,
+) -> Result<Named, AllocError>
+    ensures { IfOk result (λ n. n ≡ target_as is_known path last.now looked.now) }
+{
+    if is_known {
+        let to = target_if(alloc, is_dir_told(looked), path, last)?;
+        Ok(Named::Path(to))
+    } else {
+        let told = refused_told(alloc, path.as_slice(), why_of(looked))?;
+        Ok(Named::Mistaken(told))
     }
-    Ok(fine(alloc, Items::new(alloc)))
+}
+
+/// What stands at a path is looked at.
+fn look_target<R: Remote>(
+    alloc: Global,
+    remote: &mut R,
+    path: Path,
+    last: &[u8],
+) -> Result<Named, AllocError>
+    ensures { IfOk result (λ n. LooksTarget R.asks remote.old path last.now n remote.new) }
+{
+    let looked = ask_on(alloc, remote, Deed::Look, path.as_slice())?;
+    target_as(alloc, is_known(&looked), path, last, &looked)
+}
+
+/// Whether there is a word.
+fn has_word(word: &[u8]) -> bool
+    ensures { result ≡ has_word word.now }
+{
+    word.len() > 0
+}
+
+/// What is stored goes to a path, or below it. It is looked at only where it makes a difference.
+fn targets_if<R: Remote>(
+    alloc: Global,
+    remote: &mut R,
+    is_name: bool,
+    has_word: bool,
+    path: Path,
+    last: &[u8],
+) -> Result<Named, AllocError>
+    ensures { IfOk result (λ n. TargetsIf R.asks remote.old is_name has_word path last.now n remote.new) }
+{
+    if !is_name {
+        Ok(Named::Path(path))
+    } else if has_word {
+        look_target(alloc, remote, path, last)
+    } else {
+        let to = longer(alloc, path.as_slice(), last)?;
+        Ok(Named::Path(to))
+    }
+}
+
+/// The path of the server for what is stored: in the directory of the word, where there is one.
+fn remote_target<R: Remote>(
+    alloc: Global,
+    remote: &mut R,
+    dir: &[Name],
+    word: &[u8],
+    last: &[u8],
+) -> Result<Named, AllocError>
+    ensures { IfOk result (λ n. Targets R.asks remote.old dir.now word.now last.now n remote.new) }
+{
+    match path_named(alloc, dir, word)? {
+        Named::Path(path) => {
+            targets_if(
+                alloc,
+                remote,
+                is_component(last),
+                has_word(word),
+                path,
+                last,
+            )
+        }
+        Named::Mistaken(told) => Ok(Named::Mistaken(told)),
+    }
+}
+
+/// The directories above a path.
+fn above(path: &[Name]) -> &[Name]
+    ensures { result.now ≡ above path.now }
+{
+    &path[..path.len().saturating_sub(1)]
+}
+
+/// Whether nothing is said.
+fn is_fine(told: &Told) -> bool
+    ensures { result ≡ is_fine told.now }
+{
+    told.note.len() == 0
+}
+
+/// What is to be stored is a task, where nothing is said of the directories above.
+fn stored_as(is_fine: bool, local: LocalPath, path: Path, storing: Storing, told: Told) -> Went
+    ensures { result ≡ stored_as is_fine local path storing told }
+{
+    if is_fine {
+        Went::Works(Task::Put {
+            local,
+            path,
+            storing,
+        })
+    } else {
+        Went::Told(told)
+    }
+}
+
+/// The directories above what is stored are made, where they aren't there.
+fn stores_to<R: Remote>(
+    alloc: Global,
+    remote: &mut R,
+    local: LocalPath,
+    path: Path,
+    storing: Storing,
+) -> Result<Went, AllocError>
+    ensures { IfOk result (λ w. StoresTo R.asks remote.old local path storing w remote.new) }
+{
+    let told = make_way(alloc, remote, above(path.as_slice()))?;
+    Ok(stored_as(is_fine(&told), local, path, storing, told))
+}
+
+/// `put` and `sync`, by what the word for the path names.
+fn stores<R: Remote>(
+    alloc: Global,
+    remote: &mut R,
+    local: LocalPath,
+    named: Named,
+    storing: Storing,
+) -> Result<Went, AllocError>
+    ensures { IfOk result (λ w. Stores R.asks remote.old local named storing w remote.new) }
+{
+    match named {
+        Named::Path(path) => stores_to(alloc, remote, local, path, storing),
+        Named::Mistaken(told) => Ok(Went::Told(told)),
+    }
+}
+
+/// How a `put` stores.
+fn put_storing(deep: bool) -> Storing
+    ensures { result ≡ put_storing deep }
+{
+    Storing {
+        deep,
+        changed_only: false,
+        deletes: false,
+        fresh: false,
+        inner: false,
+        id: None,
+    }
+}
+
+/// How a `sync` stores.
+fn sync_storing(deletes: bool) -> Storing
+    ensures { result ≡ sync_storing deletes }
+{
+    Storing {
+        deep: true,
+        changed_only: true,
+        deletes,
+        fresh: false,
+        inner: false,
+        id: None,
+    }
+}
+
+/// `put` of what is here.
+fn put_to<R: Remote>(
+    alloc: Global,
+    remote: &mut R,
+    dir: &[Name],
+    line: &Line,
+    local: LocalPath,
+) -> Result<Went, AllocError>
+    ensures { IfOk result (λ w. PutsTo R.asks remote.old dir.now line.now local w remote.new) }
+{
+    let last = last_of(operand(line, 0));
+    let target = remote_target(alloc, remote, dir, operand(line, 1), last)?;
+    stores(alloc, remote, local, target, put_storing(line.has_option))
+}
+
+/// `put`, by what LOCAL is here.
+fn put_from<R: Remote>(
+    alloc: Global,
+    remote: &mut R,
+    dir: &[Name],
+    line: &Line,
+    source: NamedLocal,
+) -> Result<Went, AllocError>
+    ensures { IfOk result (λ w. PutsFrom R.asks remote.old dir.now line.now source w remote.new) }
+{
+    match source {
+        NamedLocal::Path(local) => put_to(alloc, remote, dir, line, local),
+        NamedLocal::Mistaken(told) => Ok(Went::Told(told)),
+    }
+}
+
+/// `sync` of what is here.
+fn sync_to<R: Remote>(
+    alloc: Global,
+    remote: &mut R,
+    dir: &[Name],
+    line: &Line,
+    local: LocalPath,
+) -> Result<Went, AllocError>
+    ensures { IfOk result (λ w. SyncsTo R.asks remote.old dir.now line.now local w remote.new) }
+{
+    let target = path_named(alloc, dir, operand(line, 1))?;
+    stores(alloc, remote, local, target, sync_storing(line.has_option))
+}
+
+/// `sync`, by what LOCAL is here.
+fn sync_from<R: Remote>(
+    alloc: Global,
+    remote: &mut R,
+    dir: &[Name],
+    line: &Line,
+    source: NamedLocal,
+) -> Result<Went, AllocError>
+    ensures { IfOk result (λ w. SyncsFrom R.asks remote.old dir.now line.now source w remote.new) }
+{
+    match source {
+        NamedLocal::Path(local) => sync_to(alloc, remote, dir, line, local),
+        NamedLocal::Mistaken(told) => Ok(Went::Told(told)),
+    }
 }
 
 impl Shell {
@@ -327,28 +548,6 @@ impl Shell {
         }
     }
 
-    /// The path of the server for what is stored: in the directory of the word, where there is one.
-    fn remote_target<R: Remote>(
-        &self,
-        alloc: Global,
-        remote: &mut R,
-        word: &[u8],
-        last: &[u8],
-    ) -> Result<Named, AllocError> {
-        if !is_component(last) {
-            return path_named(alloc, self.dir.as_slice(), word);
-        }
-        let path = match path_named(alloc, self.dir.as_slice(), word)? {
-            Named::Path(path) => path,
-            mistaken => return Ok(mistaken),
-        };
-        if word.is_empty() || is_directory(alloc, remote, path.as_slice())? {
-            Ok(Named::Path(longer(alloc, path.as_slice(), last)?))
-        } else {
-            Ok(Named::Path(path))
-        }
-    }
-
     /// What is to be stored, where it is here; a folder only with all that is in it.
     fn source<F: Folder>(
         &self,
@@ -371,33 +570,6 @@ impl Shell {
         Ok(NamedLocal::Mistaken(told))
     }
 
-    /// `put` and `sync`: the directories above what is stored are made, where they aren't there.
-    fn stores<R: Remote>(
-        &self,
-        alloc: Global,
-        remote: &mut R,
-        local: LocalPath,
-        named: Named,
-        storing: Storing,
-    ) -> Result<Went, AllocError>
-        ensures { IfOk result (λ w. IsPut storing w) }
-    {
-        let path = match named {
-            Named::Path(path) => path,
-            Named::Mistaken(told) => return Ok(Went::Told(told)),
-        };
-        let told = make_way(alloc, remote, path.as_slice())?;
-        if told.is_fine() {
-            Ok(Went::Works(Task::Put {
-                local,
-                path,
-                storing,
-            }))
-        } else {
-            Ok(Went::Told(told))
-        }
-    }
-
     /// `put`.
     fn put<R: Remote, F: Folder>(
         &self,
@@ -406,23 +578,10 @@ impl Shell {
         host: &mut F,
         line: &Line,
     ) -> Result<Went, AllocError>
-        ensures { IfOk result (λ w. IsPut (put_storing line.now.has_option) w) }
+        ensures { IfOk result (λ w. RunsPut R.asks remote.old self.now.dir line.now w remote.new) }
     {
-        let from = operand(line, 0);
-        let local = match self.source(alloc, host, from, line.has_option)? {
-            NamedLocal::Path(local) => local,
-            NamedLocal::Mistaken(told) => return Ok(Went::Told(told)),
-        };
-        let named = self.remote_target(alloc, remote, operand(line, 1), last_of(from))?;
-        let storing = Storing {
-            deep: line.has_option,
-            changed_only: false,
-            deletes: false,
-            fresh: false,
-            inner: false,
-            id: None,
-        };
-        self.stores(alloc, remote, local, named, storing)
+        let source = self.source(alloc, host, operand(line, 0), line.has_option)?;
+        put_from(alloc, remote, self.dir.as_slice(), line, source)
     }
 
     /// `sync`.
@@ -433,22 +592,10 @@ impl Shell {
         host: &mut F,
         line: &Line,
     ) -> Result<Went, AllocError>
-        ensures { IfOk result (λ w. IsPut (sync_storing line.now.has_option) w) }
+        ensures { IfOk result (λ w. RunsSync R.asks remote.old self.now.dir line.now w remote.new) }
     {
-        let local = match self.source(alloc, host, operand(line, 0), true)? {
-            NamedLocal::Path(local) => local,
-            NamedLocal::Mistaken(told) => return Ok(Went::Told(told)),
-        };
-        let named = path_named(alloc, self.dir.as_slice(), operand(line, 1))?;
-        let storing = Storing {
-            deep: true,
-            changed_only: true,
-            deletes: line.has_option,
-            fresh: false,
-            inner: false,
-            id: None,
-        };
-        self.stores(alloc, remote, local, named, storing)
+        let source = self.source(alloc, host, operand(line, 0), true)?;
+        sync_from(alloc, remote, self.dir.as_slice(), line, source)
     }
 
     /// A command on a path of the server.

@@ -17,4 +17,4 @@ loop-end-preserved g c = one c.loop-end.end c.loop-end.remote c.ask_on.new.remot
 pub returns : goal.returns
 returns g c =
     let e : c.loop-end.end ≡ length c.args.path.now = omega (arith, c.loop-end-test.false, c.loop-end.auto.end-end) in
-    IfOk-weaker c.made_told.result _ _ (λ told t. made c.loop-end.remote c.in_ok-is_dir.is_dir (subst (λ (k : ℕ). Makes g.R.Remote.asks c.args.remote.now c.args.path.now k c.loop-end.remote) e c.loop-end.invariant) c.in_ok-is_dir.ensures t) c.made_told.ensures
+    IfOk-weaker c.directory_told.result _ _ (λ told t. made c.loop-end.remote c.in_ok-looked.looked (subst (λ (k : ℕ). Makes g.R.Remote.asks c.args.remote.now c.args.path.now k c.loop-end.remote) e c.loop-end.invariant) c.in_ok-looked.ensures t) c.directory_told.ensures
