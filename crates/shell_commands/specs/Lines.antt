@@ -121,14 +121,14 @@ pub record Targets {R : Type 0} (asks : R → Command → Answer → R → Type 
 abbrev pub is_fine : Told → Bool
 is_fine told = length told.note == 0
 
-abbrev pub stored_as : (is_fine : Bool) → (local : List ℕ) → (path : List (List ℕ)) → Storing → Told → Went
-stored_as true local path s told = went.Works (task.Put local path s)
-stored_as false local path s told = went.Told told
+abbrev pub task_as : (is_fine : Bool) → (local : List ℕ) → (path : List (List ℕ)) → Storing → Told → Went
+task_as true local path s told = went.Works (task.Put local path s)
+task_as false local path s told = went.Told told
 
 pub record StoresTo {R : Type 0} (asks : R → Command → Answer → R → Type 0) (old : R) (local : List ℕ) (path : List (List ℕ)) (s : Storing) (w : Went) (new : R) : Type 0 where
   pub told : Told
   pub way : MakesWay asks old (above path) told new
-  pub is : w ≡ stored_as (is_fine told) local path s told
+  pub is : w ≡ task_as (is_fine told) local path s told
 
 abbrev pub Stores : {R : Type 0} → (asks : R → Command → Answer → R → Type 0) → R → (local : List ℕ) → Named → Storing → Went → R → Type 0
 Stores asks old local (named.Path path) s w new = StoresTo asks old local path s w new

@@ -8,7 +8,7 @@ ghost use Rattle.shell_words.specs.Quoting.{quoted};
 ghost use Rattle.shell_walks.specs.Telling.{fine, path_text};
 ghost use Rattle.shell_commands.specs.Lines.{of_word, mistaken_as, operand_of, Names, gone_to, Goes, MovesTo, IsGet, put_storing, sync_storing, DoesPath, RunsNamed, Runs};
 ghost use Rattle.shell_commands.specs.Lines.{target_if, target_as, LooksTarget, has_word, TargetsIf, Targets};
-ghost use Rattle.shell_commands.specs.Lines.{is_fine, stored_as, StoresTo, Stores, PutsTo, SyncsTo, PutsFrom, SyncsFrom, RunsPut, RunsSync};
+ghost use Rattle.shell_commands.specs.Lines.{is_fine, task_as, StoresTo, Stores, PutsTo, SyncsTo, PutsFrom, SyncsFrom, RunsPut, RunsSync};
 
 use command_text::path::Path;
 use lb_base::items::{Items, Name};
@@ -277,8 +277,8 @@ fn is_fine(told: &Told) -> bool
 }
 
 /// What is to be stored is a task, where nothing is said of the directories above.
-fn stored_as(is_fine: bool, local: LocalPath, path: Path, storing: Storing, told: Told) -> Went
-    ensures { result ≡ stored_as is_fine local path storing told }
+fn task_as(is_fine: bool, local: LocalPath, path: Path, storing: Storing, told: Told) -> Went
+    ensures { result ≡ task_as is_fine local path storing told }
 {
     if is_fine {
         Went::Works(Task::Put {
@@ -302,7 +302,7 @@ fn stores_to<R: Remote>(
     ensures { IfOk result (λ w. StoresTo R.asks remote.old local path storing w remote.new) }
 {
     let told = make_way(alloc, remote, above(path.as_slice()))?;
-    Ok(stored_as(is_fine(&told), local, path, storing, told))
+    Ok(task_as(is_fine(&told), local, path, storing, told))
 }
 
 /// `put` and `sync`, by what the word for the path names.
