@@ -488,7 +488,8 @@ impl Shell {
         }
     }
 
-    /// The path of the host for what is fetched: in the folder of the word, where there is one.
+    /// The path of the host for what is fetched: in the folder of the word, where one is given that is here, under
+    /// its own name, which has to be text then.
     fn local_target<F: Folder>(
         &self,
         alloc: Global,
@@ -496,15 +497,21 @@ impl Shell {
         word: &[u8],
         last: &[u8],
     ) -> Result<NamedLocal, AllocError> {
-        let word = if word.is_empty() { last } else { word };
+        let is_given = !word.is_empty();
+        let word = if is_given { word } else { last };
         let path = match self.named_local(alloc, word)? {
             NamedLocal::Path(path) => path,
             mistaken => return Ok(mistaken),
         };
         match (host.kind(path.as_str(), true), text_of(last)) {
-            (Kind::Folder, Some(text)) if is_component(last) && word != last => Ok(NamedLocal::Path(
+            (Kind::Folder, Some(text)) if is_given && is_component(last) => Ok(NamedLocal::Path(
                 LocalPath::below(alloc, path.as_str(), text)?,
             )),
+            (Kind::Folder, None) if is_given => Ok(NamedLocal::Mistaken(of_word(
+                alloc,
+                last,
+                fault_words(LocalFault::NotText),
+            )?)),
             _ => Ok(NamedLocal::Path(path)),
         }
     }
