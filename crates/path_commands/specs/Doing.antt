@@ -77,15 +77,15 @@ abbrev pub file_text : (is_long : Bool) → (path : List (List ℕ)) → Seen �
 file_text true path seen = long_line seen (path_text path)
 file_text false path seen = path_text path ++ codes "\n"
 
-abbrev pub file_told : (is_long : Bool) → (path : List (List ℕ)) → Why → Answer → Told
-file_told long path w (answer.Seen seen) = fine (file_text long path seen)
-file_told long path w a = refused_told path w
+abbrev pub file_told : (is_long : Bool) → (path : List (List ℕ)) → Answer → Told
+file_told long path (answer.Seen seen) = fine (file_text long path seen)
+file_told long path a = refused_told path (why_of a)
 
--- what can't be listed is looked at, and shown alone
-pub record LooksAt {R : Type 0} (asks : R → Command → Answer → R → Type 0) (old : R) (is_long : Bool) (path : List (List ℕ)) (w : Why) (told : Told) (new : R) : Type 0 where
+-- what can't be listed is looked at, and shown alone, or why the look failed is told
+pub record LooksAt {R : Type 0} (asks : R → Command → Answer → R → Type 0) (old : R) (is_long : Bool) (path : List (List ℕ)) (told : Told) (new : R) : Type 0 where
   pub looked : Answer
   pub looks : AsksOn asks old (command_on deed.Look path) looked new
-  pub is_told : told ≡ file_told is_long path w looked
+  pub is_told : told ≡ file_told is_long path looked
 
 -- NFS3ERR_NOTDIR
 abbrev pub is_file : Why → Bool
@@ -93,7 +93,7 @@ is_file (why.Refused n) = n == 20
 is_file w = false
 
 abbrev pub ListsFile : {R : Type 0} → (asks : R → Command → Answer → R → Type 0) → R → (is_file is_long : Bool) → List (List ℕ) → Why → Told → R → Type 0
-ListsFile asks old true long path w told new = LooksAt asks old long path w told new
+ListsFile asks old true long path w told new = LooksAt asks old long path told new
 ListsFile asks old false long path w told new = (new ≡ old) × (told ≡ refused_told path w)
 
 -- a line for each name that was told, of what it is told to stand for

@@ -112,19 +112,18 @@ fn file_text(alloc: Global, is_long: bool, path: &[Name], seen: &Seen) -> Result
     Ok(shown)
 }
 
-/// What is told of what can't be listed.
+/// What is told of what can't be listed, by a look at it.
 fn file_told(
     alloc: Global,
     is_long: bool,
     path: &[Name],
-    why: Why,
     looked: &Answer,
 ) -> Result<Told, AllocError>
-    ensures { IfOk result (λ told. told ≡ file_told is_long path.now why looked.now) }
+    ensures { IfOk result (λ told. told ≡ file_told is_long path.now looked.now) }
 {
     match looked {
         Answer::Seen(seen) => Ok(fine(alloc, file_text(alloc, is_long, path, seen)?)),
-        _ => refused_told(alloc, path, why),
+        _ => refused_told(alloc, path, why_of(looked)),
     }
 }
 
@@ -134,12 +133,11 @@ fn look_at<R: Remote>(
     remote: &mut R,
     is_long: bool,
     path: &[Name],
-    why: Why,
 ) -> Result<Told, AllocError>
-    ensures { IfOk result (λ told. LooksAt R.asks remote.old is_long path.now why told remote.new) }
+    ensures { IfOk result (λ told. LooksAt R.asks remote.old is_long path.now told remote.new) }
 {
     let looked = ask_on(alloc, remote, Deed::Look, path)?;
-    file_told(alloc, is_long, path, why, &looked)
+    file_told(alloc, is_long, path, &looked)
 }
 
 /// Whether it can't be listed since it is no directory.
@@ -161,7 +159,7 @@ fn list_file<R: Remote>(
     ensures { IfOk result (λ told. ListsFile R.asks remote.old is_file is_long path.now why told remote.new) }
 {
     if is_file {
-        look_at(alloc, remote, is_long, path, why)
+        look_at(alloc, remote, is_long, path)
     } else {
         refused_told(alloc, path, why)
     }
