@@ -1,6 +1,7 @@
 //! How the content of a file becomes the host's: `specs/Fetching.antt`.
 
-ghost use Rattle.std.specs.Prelude.{◌≡◌, length, IfOk};
+ghost use Rattle.std.specs.Prelude.{◌≡◌, length, false, IfOk, OnErr};
+ghost use Rattle.shell_walks.specs.Storing.{AbandonsIf};
 ghost use Rattle.shell_walks.specs.Fetching.{got_of, Keeps, Fetches, Gets, CatsOpen, Cats};
 ghost use Rattle.shell_walks.specs.Telling.{fine};
 
@@ -87,13 +88,14 @@ pub fn get<R: Remote, F: Folder>(
     }
 }
 
-/// The content of an open file is told, and the file is abandoned.
+/// The content of an open file is told, and the file is abandoned, also where there is no memory for the content.
 fn tell<R: Remote>(alloc: Global, remote: &mut R, file: u64) -> Result<Told, AllocError>
-    ensures { IfOk result (λ told. CatsOpen R.asks R.content remote.old file told remote.new) }
+    ensures tells { IfOk result (λ told. CatsOpen R.asks R.content remote.old file told remote.new) }
+    ensures abandons { OnErr result (AbandonsIf R.asks remote.old file false remote.new) }
 {
-    let text = Items::copy_of(alloc, remote.content(file))?;
+    let copied = Items::copy_of(alloc, remote.content(file));
     drop(remote.ask(alloc, Command::Abandon(file)));
-    Ok(fine(alloc, text))
+    Ok(fine(alloc, copied?))
 }
 
 /// Tells the content of a file.

@@ -1,8 +1,8 @@
 //! How bytes become the content of a file: `specs/Storing.antt`.
 
-ghost use Rattle.std.specs.Prelude.{◌≡◌, ◌∷◌, [], IfOk, bytes_eq};
+ghost use Rattle.std.specs.Prelude.{◌≡◌, ◌∷◌, [], false, IfOk, OnErr, bytes_eq};
 ghost use Rattle.command_text.specs.declared.content.Part.TheVariants as part;
-ghost use Rattle.shell_walks.specs.Storing.{is_done, is_closed, made_file, opened_file, failed_as, failure_of, closed_as, left_as, renewed_as, made_as, Replaces, Abandons, Stores, StoresIf};
+ghost use Rattle.shell_walks.specs.Storing.{is_done, is_closed, made_file, opened_file, failed_as, failure_of, closed_as, left_as, renewed_as, made_as, Replaces, Abandons, AbandonsIf, Stores, StoresIf};
 ghost use Rattle.shell_walks.specs.Storing.{RenewsId, RenewsIf};
 ghost use Rattle.shell_walks.specs.Storing.{RenewsSeen, Renews, StoresAt, StoresMade, is_missing, may_store, MakesElse, Makes, StoresChanged, PutsOpen, MakesUnless, Opens, Puts};
 
@@ -149,16 +149,24 @@ fn abandon_unstored<R: Remote>(alloc: Global, remote: &mut R, file: u64, answer:
     }
 }
 
-/// These bytes become the content of an open file.
+/// These bytes become the content of an open file. Where memory runs out before it is asked for it is abandoned: left
+/// open, it would be refused to whoever opens it next.
 fn store<R: Remote>(
     alloc: Global,
     remote: &mut R,
     file: u64,
     bytes: Bytes,
 ) -> Result<Answer, AllocError>
-    ensures { IfOk result (λ answer. Stores R.asks remote.old file bytes answer remote.new) }
+    ensures stores { IfOk result (λ answer. Stores R.asks remote.old file bytes answer remote.new) }
+    ensures abandons { OnErr result (AbandonsIf R.asks remote.old file false remote.new) }
 {
-    let content = content_of(alloc, bytes)?;
+    let content = match content_of(alloc, bytes) {
+        Ok(content) => content,
+        Err(error) => {
+            drop(remote.ask(alloc, Command::Abandon(file)));
+            return Err(error);
+        }
+    };
     let answer = replace(alloc, remote, file, content);
     abandon_unstored(alloc, remote, file, &answer);
     Ok(answer)
