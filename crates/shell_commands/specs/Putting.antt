@@ -20,7 +20,7 @@ use Rattle.shell_walks.specs.declared.tasks.Storing.{Storing}
 use Rattle.shell_walks.specs.declared.tasks.Task.{Task}
 use Rattle.shell_walks.specs.declared.tasks.Task.TheVariants as task
 use Rattle.path_commands.specs.Placing.{is_new, ListsIf, no_place, place_news, PlacesOver}
-use Rattle.shell_commands.specs.Visiting.{bad_names, faulty_as, leads, refused_as, removed_as, said_of}
+use Rattle.shell_commands.specs.Visiting.{bad_names, faulty_as, leads, odd_names, refused_as, removed_as, said_of}
 use Rattle.path_commands.specs.declared.placing.Place.{Place}
 use Rattle.shell_commands.specs.declared.visiting.Visited.{Visited}
 
@@ -82,9 +82,14 @@ abbrev pub with_removals : (deletes : Bool) → (path held names : List (List �
 with_removals true path held names more = more ++ removals path held names
 with_removals false path held names more = more
 
+-- what stays there though the folder hasn't it is said, where something may go
+abbrev pub with_odd : (deletes : Bool) → (path names : List (List ℕ)) → (note : List ℕ) → List ℕ
+with_odd true path names note = note ++ odd_names path names
+with_odd false path names note = note
+
 -- a listing of it is; what the folder hasn't goes behind the others, where it may
 abbrev pub in_known : (local : List ℕ) → (path : List (List ℕ)) → Storing → (names : List (List ℕ)) → Listed → (news : List ℕ) → Visited
-in_known local path s names l news = leads (with_removals s.deletes path names l.names (put_known local path s l names)) (bad_names local names) news false
+in_known local path s names l news = leads (with_removals s.deletes path names l.names (put_known local path s l names)) (with_odd s.deletes path l.names (bad_names local names)) news false
 
 abbrev pub unlisted_note : (is_said : Bool) → (path : List (List ℕ)) → Why → List ℕ
 unlisted_note true path w = note_line (path_text path) (why_text w)

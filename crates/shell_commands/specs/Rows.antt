@@ -4,7 +4,7 @@ use Rattle.shell_walks.specs.declared.remote.Answer.TheVariants as answer
 use Rattle.shell_walks.specs.declared.remote.Why.TheVariants as why
 use Rattle.shell_walks.specs.declared.tasks.Storing.{Storing}
 use Rattle.shell_walks.specs.declared.tasks.Task.TheVariants as task
-use Rattle.shell_commands.specs.Putting.{again_if, in_listed, stored_as}
+use Rattle.shell_commands.specs.Putting.{again_if, in_known, in_listed, stored_as}
 use Rattle.shell_commands.specs.Visiting.{removed_as}
 
 abbrev cleaning : Storing
@@ -13,6 +13,13 @@ cleaning = record { deep = true; changed_only = true; deletes = true; fresh = fa
 -- no server answers to a listing: that is said, also where nothing would have gone
 pub no_listing : in_listed (codes "h") (codes "d" ∷ []) (record cleaning { deletes = false }) [] (answer.Failed why.NoLink) [] ≡ record { more = []; note = codes "/d: no server answers (is lbfs share, or ssh -L, running yet?)\n"; news = []; files = 0; bytes = 0; is_off = true; left = 0 }
 no_listing = refl
+
+-- a name that no folder here gives or gets stays at the server, which is said where something may go
+pub a_name_stays : in_known (codes "h") (codes "d" ∷ []) cleaning [] (record { names = codes ".." ∷ []; ids = 3 ∷ [] }) [] ≡ record { more = []; note = codes "/d/..: no file here can have this name\n"; news = []; files = 0; bytes = 0; is_off = false; left = 0 }
+a_name_stays = refl
+
+pub nothing_goes : in_known (codes "h") (codes "d" ∷ []) (record cleaning { deletes = false }) [] (record { names = codes ".." ∷ []; ids = 3 ∷ [] }) [] ≡ record { more = []; note = []; news = []; files = 0; bytes = 0; is_off = false; left = 0 }
+nothing_goes = refl
 
 -- a directory that went for a file, and one of which 5 things stay
 pub comes_again : removed_as (again_if true (codes "h/a") (codes "d" ∷ codes "a" ∷ []) (record cleaning { id = Some 7 })) (record { said = record { note = []; news = codes "/d/a: removed\n"; is_off = false }; left = 0 }) ≡ record { more = task.Put (codes "h/a") (codes "d" ∷ codes "a" ∷ []) (record cleaning { deletes = false; fresh = true }) ∷ []; note = []; news = codes "/d/a: removed\n"; files = 0; bytes = 0; is_off = false; left = 0 }

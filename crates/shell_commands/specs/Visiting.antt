@@ -69,6 +69,17 @@ abbrev pub bad_names : (folder : List ℕ) → (names : List (List ℕ)) → Lis
 bad_names folder [] = []
 bad_names folder (name ∷ names) = bad_more folder name ++ bad_names folder names
 
+-- of those in a directory, by their paths at the server
+abbrev pub odd_name : (path : List (List ℕ)) → (name : List ℕ) → List ℕ
+odd_name path name = note_line (path_text (path ++ name ∷ [])) (fault_text (name_fault name))
+
+abbrev pub odd_more : (path : List (List ℕ)) → (name : List ℕ) → List ℕ
+odd_more path name = if is_carried name then [] else odd_name path name
+
+abbrev pub odd_names : (path names : List (List ℕ)) → List ℕ
+odd_names path [] = []
+odd_names path (name ∷ names) = odd_more path name ++ odd_names path names
+
 -- NFS3ERR_ISDIR
 abbrev pub is_directory_for : Why → Bool
 is_directory_for (why.Refused n) = n == 21

@@ -11,7 +11,7 @@ ghost use Rattle.shell_commands.specs.Putting.{PutsOver, PutsPlaced, PutsRead, P
 ghost use Rattle.shell_commands.specs.Visiting.{AllCome, CountsPut, said_of, SparesPut, Touches};
 ghost use Rattle.shell_walks.specs.declared.tasks.Task.TheVariants as tasks;
 
-use crate::unfit::bad_names;
+use crate::unfit::{bad_names, with_odd};
 use crate::visiting::{Visited, faulty, leads, refused, removed, said};
 use lb_base::items::{Bytes, Items, Name};
 use path_commands::placing::{Place, is_new, list_if, make_place_over, no_place, place_news};
@@ -285,7 +285,8 @@ fn in_known(
     let held = listed.names.as_slice();
     let puts = put_known(alloc, local, path, storing, listed, names)?;
     let more = with_removals(alloc, storing.deletes, path, names, held, puts)?;
-    let note = bad_names(alloc, local.as_bytes(), names)?;
+    let bad = bad_names(alloc, local.as_bytes(), names)?;
+    let note = with_odd(alloc, storing.deletes, path, held, bad)?;
     Ok(leads(more, note, news, false))
 }
 
