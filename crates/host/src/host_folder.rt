@@ -186,7 +186,7 @@ impl<'a, R: HostDisk + HostTime + Eprint + Copy> Folders for HostFolders<'a, R> 
 }
 
 impl<'a, R: HostDisk + HostTime + Eprint> Folder for HostFolder<'a, R> {
-    ghost finds = { λ _ _ _ _. Unit {0} };
+    ghost finds = { λ _ _ _ _ _. Unit {0} };
 
     ghost reads = { λ _ _ _ _. Unit {0} };
 

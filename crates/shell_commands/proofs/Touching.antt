@@ -62,34 +62,34 @@ removals_come local path s held (name ∷ names) may = join (task.Put local path
 
 -- ---- calls of the host's files
 
-pub stayed : {F : Type 0} {finds : F → List ℕ → Kind → F → Type 0} {reads : F → List ℕ → Result (List ℕ) LocalFault → F → Type 0} {writes : F → List ℕ → List ℕ → Result Unit LocalFault → F → Type 0} {lists : F → List ℕ → Result (List (List ℕ)) LocalFault → F → Type 0} {makes tries : F → List ℕ → Result Unit LocalFault → F → Type 0} {clears : F → List ℕ → F → Type 0} (local : List ℕ) (old new : F) → new ≡ old → Touches finds reads writes lists makes tries clears local old new
+pub stayed : {F : Type 0} {finds : F → Bool → List ℕ → Kind → F → Type 0} {reads : F → List ℕ → Result (List ℕ) LocalFault → F → Type 0} {writes : F → List ℕ → List ℕ → Result Unit LocalFault → F → Type 0} {lists : F → List ℕ → Result (List (List ℕ)) LocalFault → F → Type 0} {makes tries : F → List ℕ → Result Unit LocalFault → F → Type 0} {clears : F → List ℕ → F → Type 0} (local : List ℕ) (old new : F) → new ≡ old → Touches finds reads writes lists makes tries clears local old new
 stayed local old new is = untouched new is
 
-pub only_found : {F : Type 0} {finds : F → List ℕ → Kind → F → Type 0} {reads : F → List ℕ → Result (List ℕ) LocalFault → F → Type 0} {writes : F → List ℕ → List ℕ → Result Unit LocalFault → F → Type 0} {lists : F → List ℕ → Result (List (List ℕ)) LocalFault → F → Type 0} {makes tries : F → List ℕ → Result Unit LocalFault → F → Type 0} {clears : F → List ℕ → F → Type 0} (local : List ℕ) (k : Kind) (old new : F) → finds old local k new → Touches finds reads writes lists makes tries clears local old new
-only_found local k old new h = found k old new (untouched old refl) h
+pub only_found : {F : Type 0} {finds : F → Bool → List ℕ → Kind → F → Type 0} {reads : F → List ℕ → Result (List ℕ) LocalFault → F → Type 0} {writes : F → List ℕ → List ℕ → Result Unit LocalFault → F → Type 0} {lists : F → List ℕ → Result (List (List ℕ)) LocalFault → F → Type 0} {makes tries : F → List ℕ → Result Unit LocalFault → F → Type 0} {clears : F → List ℕ → F → Type 0} (follows : Bool) (local : List ℕ) (k : Kind) (old new : F) → finds old follows local k new → Touches finds reads writes lists makes tries clears local old new
+only_found follows local k old new h = found follows k old new (untouched old refl) h
 
-pub only_read : {F : Type 0} {finds : F → List ℕ → Kind → F → Type 0} {reads : F → List ℕ → Result (List ℕ) LocalFault → F → Type 0} {writes : F → List ℕ → List ℕ → Result Unit LocalFault → F → Type 0} {lists : F → List ℕ → Result (List (List ℕ)) LocalFault → F → Type 0} {makes tries : F → List ℕ → Result Unit LocalFault → F → Type 0} {clears : F → List ℕ → F → Type 0} (local : List ℕ) (r : Result (List ℕ) LocalFault) (old new : F) → reads old local r new → Touches finds reads writes lists makes tries clears local old new
+pub only_read : {F : Type 0} {finds : F → Bool → List ℕ → Kind → F → Type 0} {reads : F → List ℕ → Result (List ℕ) LocalFault → F → Type 0} {writes : F → List ℕ → List ℕ → Result Unit LocalFault → F → Type 0} {lists : F → List ℕ → Result (List (List ℕ)) LocalFault → F → Type 0} {makes tries : F → List ℕ → Result Unit LocalFault → F → Type 0} {clears : F → List ℕ → F → Type 0} (local : List ℕ) (r : Result (List ℕ) LocalFault) (old new : F) → reads old local r new → Touches finds reads writes lists makes tries clears local old new
 only_read local r old new h = read r old new (untouched old refl) h
 
-pub only_written : {F : Type 0} {finds : F → List ℕ → Kind → F → Type 0} {reads : F → List ℕ → Result (List ℕ) LocalFault → F → Type 0} {writes : F → List ℕ → List ℕ → Result Unit LocalFault → F → Type 0} {lists : F → List ℕ → Result (List (List ℕ)) LocalFault → F → Type 0} {makes tries : F → List ℕ → Result Unit LocalFault → F → Type 0} {clears : F → List ℕ → F → Type 0} (local bytes : List ℕ) (r : Result Unit LocalFault) (old new : F) → writes old local bytes r new → Touches finds reads writes lists makes tries clears local old new
+pub only_written : {F : Type 0} {finds : F → Bool → List ℕ → Kind → F → Type 0} {reads : F → List ℕ → Result (List ℕ) LocalFault → F → Type 0} {writes : F → List ℕ → List ℕ → Result Unit LocalFault → F → Type 0} {lists : F → List ℕ → Result (List (List ℕ)) LocalFault → F → Type 0} {makes tries : F → List ℕ → Result Unit LocalFault → F → Type 0} {clears : F → List ℕ → F → Type 0} (local bytes : List ℕ) (r : Result Unit LocalFault) (old new : F) → writes old local bytes r new → Touches finds reads writes lists makes tries clears local old new
 only_written local bytes r old new h = written bytes r old new (untouched old refl) h
 
-pub only_listed : {F : Type 0} {finds : F → List ℕ → Kind → F → Type 0} {reads : F → List ℕ → Result (List ℕ) LocalFault → F → Type 0} {writes : F → List ℕ → List ℕ → Result Unit LocalFault → F → Type 0} {lists : F → List ℕ → Result (List (List ℕ)) LocalFault → F → Type 0} {makes tries : F → List ℕ → Result Unit LocalFault → F → Type 0} {clears : F → List ℕ → F → Type 0} (local : List ℕ) (r : Result (List (List ℕ)) LocalFault) (old new : F) → lists old local r new → Touches finds reads writes lists makes tries clears local old new
+pub only_listed : {F : Type 0} {finds : F → Bool → List ℕ → Kind → F → Type 0} {reads : F → List ℕ → Result (List ℕ) LocalFault → F → Type 0} {writes : F → List ℕ → List ℕ → Result Unit LocalFault → F → Type 0} {lists : F → List ℕ → Result (List (List ℕ)) LocalFault → F → Type 0} {makes tries : F → List ℕ → Result Unit LocalFault → F → Type 0} {clears : F → List ℕ → F → Type 0} (local : List ℕ) (r : Result (List (List ℕ)) LocalFault) (old new : F) → lists old local r new → Touches finds reads writes lists makes tries clears local old new
 only_listed local r old new h = listed r old new (untouched old refl) h
 
-pub only_made : {F : Type 0} {finds : F → List ℕ → Kind → F → Type 0} {reads : F → List ℕ → Result (List ℕ) LocalFault → F → Type 0} {writes : F → List ℕ → List ℕ → Result Unit LocalFault → F → Type 0} {lists : F → List ℕ → Result (List (List ℕ)) LocalFault → F → Type 0} {makes tries : F → List ℕ → Result Unit LocalFault → F → Type 0} {clears : F → List ℕ → F → Type 0} (local : List ℕ) (r : Result Unit LocalFault) (old new : F) → makes old local r new → Touches finds reads writes lists makes tries clears local old new
+pub only_made : {F : Type 0} {finds : F → Bool → List ℕ → Kind → F → Type 0} {reads : F → List ℕ → Result (List ℕ) LocalFault → F → Type 0} {writes : F → List ℕ → List ℕ → Result Unit LocalFault → F → Type 0} {lists : F → List ℕ → Result (List (List ℕ)) LocalFault → F → Type 0} {makes tries : F → List ℕ → Result Unit LocalFault → F → Type 0} {clears : F → List ℕ → F → Type 0} (local : List ℕ) (r : Result Unit LocalFault) (old new : F) → makes old local r new → Touches finds reads writes lists makes tries clears local old new
 only_made local r old new h = made r old new (untouched old refl) h
 
-pub only_tried : {F : Type 0} {finds : F → List ℕ → Kind → F → Type 0} {reads : F → List ℕ → Result (List ℕ) LocalFault → F → Type 0} {writes : F → List ℕ → List ℕ → Result Unit LocalFault → F → Type 0} {lists : F → List ℕ → Result (List (List ℕ)) LocalFault → F → Type 0} {makes tries : F → List ℕ → Result Unit LocalFault → F → Type 0} {clears : F → List ℕ → F → Type 0} (local : List ℕ) (r : Result Unit LocalFault) (old new : F) → tries old local r new → Touches finds reads writes lists makes tries clears local old new
+pub only_tried : {F : Type 0} {finds : F → Bool → List ℕ → Kind → F → Type 0} {reads : F → List ℕ → Result (List ℕ) LocalFault → F → Type 0} {writes : F → List ℕ → List ℕ → Result Unit LocalFault → F → Type 0} {lists : F → List ℕ → Result (List (List ℕ)) LocalFault → F → Type 0} {makes tries : F → List ℕ → Result Unit LocalFault → F → Type 0} {clears : F → List ℕ → F → Type 0} (local : List ℕ) (r : Result Unit LocalFault) (old new : F) → tries old local r new → Touches finds reads writes lists makes tries clears local old new
 only_tried local r old new h = tried r old new (untouched old refl) h
 
-pub only_cleared : {F : Type 0} {finds : F → List ℕ → Kind → F → Type 0} {reads : F → List ℕ → Result (List ℕ) LocalFault → F → Type 0} {writes : F → List ℕ → List ℕ → Result Unit LocalFault → F → Type 0} {lists : F → List ℕ → Result (List (List ℕ)) LocalFault → F → Type 0} {makes tries : F → List ℕ → Result Unit LocalFault → F → Type 0} {clears : F → List ℕ → F → Type 0} (local : List ℕ) (old new : F) → clears old local new → Touches finds reads writes lists makes tries clears local old new
+pub only_cleared : {F : Type 0} {finds : F → Bool → List ℕ → Kind → F → Type 0} {reads : F → List ℕ → Result (List ℕ) LocalFault → F → Type 0} {writes : F → List ℕ → List ℕ → Result Unit LocalFault → F → Type 0} {lists : F → List ℕ → Result (List (List ℕ)) LocalFault → F → Type 0} {makes tries : F → List ℕ → Result Unit LocalFault → F → Type 0} {clears : F → List ℕ → F → Type 0} (local : List ℕ) (old new : F) → clears old local new → Touches finds reads writes lists makes tries clears local old new
 only_cleared local old new h = cleared old new (untouched old refl) h
 
 -- one after the other
-pub both : {F : Type 0} {finds : F → List ℕ → Kind → F → Type 0} {reads : F → List ℕ → Result (List ℕ) LocalFault → F → Type 0} {writes : F → List ℕ → List ℕ → Result Unit LocalFault → F → Type 0} {lists : F → List ℕ → Result (List (List ℕ)) LocalFault → F → Type 0} {makes tries : F → List ℕ → Result Unit LocalFault → F → Type 0} {clears : F → List ℕ → F → Type 0} (local : List ℕ) (old mid new : F) → Touches finds reads writes lists makes tries clears local old mid → Touches finds reads writes lists makes tries clears local mid new → Touches finds reads writes lists makes tries clears local old new
+pub both : {F : Type 0} {finds : F → Bool → List ℕ → Kind → F → Type 0} {reads : F → List ℕ → Result (List ℕ) LocalFault → F → Type 0} {writes : F → List ℕ → List ℕ → Result Unit LocalFault → F → Type 0} {lists : F → List ℕ → Result (List (List ℕ)) LocalFault → F → Type 0} {makes tries : F → List ℕ → Result Unit LocalFault → F → Type 0} {clears : F → List ℕ → F → Type 0} (local : List ℕ) (old mid new : F) → Touches finds reads writes lists makes tries clears local old mid → Touches finds reads writes lists makes tries clears local mid new → Touches finds reads writes lists makes tries clears local old new
 both {finds = finds} {reads = reads} {writes = writes} {lists = lists} {makes = makes} {tries = tries} {clears = clears} local old mid _ t (untouched n is) = subst (λ s. Touches finds reads writes lists makes tries clears local old s) (sym is) t
-both local old mid _ t (found k m n r h) = found k m n (both local old mid m t r) h
+both local old mid _ t (found f k m n r h) = found f k m n (both local old mid m t r) h
 both local old mid _ t (read x m n r h) = read x m n (both local old mid m t r) h
 both local old mid _ t (written b x m n r h) = written b x m n (both local old mid m t r) h
 both local old mid _ t (listed x m n r h) = listed x m n (both local old mid m t r) h
@@ -97,20 +97,20 @@ both local old mid _ t (made x m n r h) = made x m n (both local old mid m t r) 
 both local old mid _ t (tried x m n r h) = tried x m n (both local old mid m t r) h
 both local old mid _ t (cleared m n r h) = cleared m n (both local old mid m t r) h
 
-pub first_found : {F : Type 0} {finds : F → List ℕ → Kind → F → Type 0} {reads : F → List ℕ → Result (List ℕ) LocalFault → F → Type 0} {writes : F → List ℕ → List ℕ → Result Unit LocalFault → F → Type 0} {lists : F → List ℕ → Result (List (List ℕ)) LocalFault → F → Type 0} {makes tries : F → List ℕ → Result Unit LocalFault → F → Type 0} {clears : F → List ℕ → F → Type 0} (local : List ℕ) (k : Kind) (old mid new : F) → finds old local k mid → Touches finds reads writes lists makes tries clears local mid new → Touches finds reads writes lists makes tries clears local old new
-first_found local k old mid new h t = both local old mid new (only_found local k old mid h) t
+pub first_found : {F : Type 0} {finds : F → Bool → List ℕ → Kind → F → Type 0} {reads : F → List ℕ → Result (List ℕ) LocalFault → F → Type 0} {writes : F → List ℕ → List ℕ → Result Unit LocalFault → F → Type 0} {lists : F → List ℕ → Result (List (List ℕ)) LocalFault → F → Type 0} {makes tries : F → List ℕ → Result Unit LocalFault → F → Type 0} {clears : F → List ℕ → F → Type 0} (follows : Bool) (local : List ℕ) (k : Kind) (old mid new : F) → finds old follows local k mid → Touches finds reads writes lists makes tries clears local mid new → Touches finds reads writes lists makes tries clears local old new
+first_found follows local k old mid new h t = both local old mid new (only_found follows local k old mid h) t
 
 -- what is fetched is written to that one path
-gets_if : {F : Type 0} {finds : F → List ℕ → Kind → F → Type 0} {reads : F → List ℕ → Result (List ℕ) LocalFault → F → Type 0} {writes : F → List ℕ → List ℕ → Result Unit LocalFault → F → Type 0} {lists : F → List ℕ → Result (List (List ℕ)) LocalFault → F → Type 0} {makes tries : F → List ℕ → Result Unit LocalFault → F → Type 0} {clears : F → List ℕ → F → Type 0} {R : Type 0} (asks : R → Command → Answer → R → Type 0) (content : R → ℕ → List ℕ) (local : List ℕ) (old new : R) (host host' : F) (o : Option ℕ) (opened : Answer) (g : Got) → GetsIf asks content writes old host o opened local g new host' → Touches finds reads writes lists makes tries clears local host host'
+gets_if : {F : Type 0} {finds : F → Bool → List ℕ → Kind → F → Type 0} {reads : F → List ℕ → Result (List ℕ) LocalFault → F → Type 0} {writes : F → List ℕ → List ℕ → Result Unit LocalFault → F → Type 0} {lists : F → List ℕ → Result (List (List ℕ)) LocalFault → F → Type 0} {makes tries : F → List ℕ → Result Unit LocalFault → F → Type 0} {clears : F → List ℕ → F → Type 0} {R : Type 0} (asks : R → Command → Answer → R → Type 0) (content : R → ℕ → List ℕ) (local : List ℕ) (old new : R) (host host' : F) (o : Option ℕ) (opened : Answer) (g : Got) → GetsIf asks content writes old host o opened local g new host' → Touches finds reads writes lists makes tries clears local host host'
 gets_if asks content local old new host host' (Some file) opened g k = only_written local (content old file) k.wrote host host' k.written
 gets_if asks content local old new host host' None opened g k = untouched host' k.1
 
-fetches_touch : {F : Type 0} {finds : F → List ℕ → Kind → F → Type 0} {reads : F → List ℕ → Result (List ℕ) LocalFault → F → Type 0} {writes : F → List ℕ → List ℕ → Result Unit LocalFault → F → Type 0} {lists : F → List ℕ → Result (List (List ℕ)) LocalFault → F → Type 0} {makes tries : F → List ℕ → Result Unit LocalFault → F → Type 0} {clears : F → List ℕ → F → Type 0} {R : Type 0} (asks : R → Command → Answer → R → Type 0) (content : R → ℕ → List ℕ) (id : Option ℕ) (path : List (List ℕ)) (local : List ℕ) (old new : R) (host host' : F) (g : Got) → Fetches asks content writes old host id path local g new host' → Touches finds reads writes lists makes tries clears local host host'
+fetches_touch : {F : Type 0} {finds : F → Bool → List ℕ → Kind → F → Type 0} {reads : F → List ℕ → Result (List ℕ) LocalFault → F → Type 0} {writes : F → List ℕ → List ℕ → Result Unit LocalFault → F → Type 0} {lists : F → List ℕ → Result (List (List ℕ)) LocalFault → F → Type 0} {makes tries : F → List ℕ → Result Unit LocalFault → F → Type 0} {clears : F → List ℕ → F → Type 0} {R : Type 0} (asks : R → Command → Answer → R → Type 0) (content : R → ℕ → List ℕ) (id : Option ℕ) (path : List (List ℕ)) (local : List ℕ) (old new : R) (host host' : F) (g : Got) → Fetches asks content writes old host id path local g new host' → Touches finds reads writes lists makes tries clears local host host'
 fetches_touch asks content id path local old new host host' g k = gets_if asks content local k.between new host host' (opened_file k.opened) k.opened g k.goes_on
 
-gets_after : {F : Type 0} {finds : F → List ℕ → Kind → F → Type 0} {reads : F → List ℕ → Result (List ℕ) LocalFault → F → Type 0} {writes : F → List ℕ → List ℕ → Result Unit LocalFault → F → Type 0} {lists : F → List ℕ → Result (List (List ℕ)) LocalFault → F → Type 0} {makes tries : F → List ℕ → Result Unit LocalFault → F → Type 0} {clears : F → List ℕ → F → Type 0} {R : Type 0} (asks : R → Command → Answer → R → Type 0) (content : R → ℕ → List ℕ) (id : Option ℕ) (path : List (List ℕ)) (local : List ℕ) (old new : R) (host host' : F) (may : Result Unit LocalFault) (g : Got) → GetsAfter asks content writes old host may id path local g new host' → Touches finds reads writes lists makes tries clears local host host'
+gets_after : {F : Type 0} {finds : F → Bool → List ℕ → Kind → F → Type 0} {reads : F → List ℕ → Result (List ℕ) LocalFault → F → Type 0} {writes : F → List ℕ → List ℕ → Result Unit LocalFault → F → Type 0} {lists : F → List ℕ → Result (List (List ℕ)) LocalFault → F → Type 0} {makes tries : F → List ℕ → Result Unit LocalFault → F → Type 0} {clears : F → List ℕ → F → Type 0} {R : Type 0} (asks : R → Command → Answer → R → Type 0) (content : R → ℕ → List ℕ) (id : Option ℕ) (path : List (List ℕ)) (local : List ℕ) (old new : R) (host host' : F) (may : Result Unit LocalFault) (g : Got) → GetsAfter asks content writes old host may id path local g new host' → Touches finds reads writes lists makes tries clears local host host'
 gets_after asks content id path local old new host host' (Ok u) g k = fetches_touch asks content id path local old new host host' g k
 gets_after asks content id path local old new host host' (Err fault) g k = untouched host' k.1
 
-pub gets_touch : {F : Type 0} {finds : F → List ℕ → Kind → F → Type 0} {reads : F → List ℕ → Result (List ℕ) LocalFault → F → Type 0} {writes : F → List ℕ → List ℕ → Result Unit LocalFault → F → Type 0} {lists : F → List ℕ → Result (List (List ℕ)) LocalFault → F → Type 0} {makes tries : F → List ℕ → Result Unit LocalFault → F → Type 0} {clears : F → List ℕ → F → Type 0} {R : Type 0} (asks : R → Command → Answer → R → Type 0) (content : R → ℕ → List ℕ) (id : Option ℕ) (path : List (List ℕ)) (local : List ℕ) (old new : R) (host host' : F) (g : Got) → Gets asks content writes tries old host id path local g new host' → Touches finds reads writes lists makes tries clears local host host'
+pub gets_touch : {F : Type 0} {finds : F → Bool → List ℕ → Kind → F → Type 0} {reads : F → List ℕ → Result (List ℕ) LocalFault → F → Type 0} {writes : F → List ℕ → List ℕ → Result Unit LocalFault → F → Type 0} {lists : F → List ℕ → Result (List (List ℕ)) LocalFault → F → Type 0} {makes tries : F → List ℕ → Result Unit LocalFault → F → Type 0} {clears : F → List ℕ → F → Type 0} {R : Type 0} (asks : R → Command → Answer → R → Type 0) (content : R → ℕ → List ℕ) (id : Option ℕ) (path : List (List ℕ)) (local : List ℕ) (old new : R) (host host' : F) (g : Got) → Gets asks content writes tries old host id path local g new host' → Touches finds reads writes lists makes tries clears local host host'
 gets_touch asks content id path local old new host host' g k = both local host k.between host' (only_tried local k.may host k.between k.trial) (gets_after asks content id path local old new k.between host' k.may g k.goes_on)

@@ -37,12 +37,12 @@ abbrev pub is_here : Result Unit LocalFault → Bool
 is_here (Ok u) = false
 is_here (Err fault) = is_here_for fault
 
-abbrev pub MakesIf : {F : Type 0} → (finds : F → List ℕ → Kind → F → Type 0) → F → (is_here : Bool) → (local : List ℕ) → (made r : Result Unit LocalFault) → F → Type 0
-MakesIf finds old true local made r new = (k : Kind) × finds old local k new × (r ≡ folder_as k)
+abbrev pub MakesIf : {F : Type 0} → (finds : F → Bool → List ℕ → Kind → F → Type 0) → F → (is_here : Bool) → (local : List ℕ) → (made r : Result Unit LocalFault) → F → Type 0
+MakesIf finds old true local made r new = (k : Kind) × finds old true local k new × (r ≡ folder_as k)
 MakesIf finds old false local made r new = (new ≡ old) × (r ≡ made)
 
 -- it is made, unless it is there
-pub record MakesFolder {F : Type 0} (finds : F → List ℕ → Kind → F → Type 0) (makes : F → List ℕ → Result Unit LocalFault → F → Type 0) (old : F) (local : List ℕ) (r : Result Unit LocalFault) (new : F) : Type 0 where
+pub record MakesFolder {F : Type 0} (finds : F → Bool → List ℕ → Kind → F → Type 0) (makes : F → List ℕ → Result Unit LocalFault → F → Type 0) (old : F) (local : List ℕ) (r : Result Unit LocalFault) (new : F) : Type 0 where
   pub made : Result Unit LocalFault
   pub between : F
   pub tried : makes old local made between
@@ -59,7 +59,7 @@ ClearsIf clears old (Ok u) path local l v new = clears old local new × (v ≡ i
 ClearsIf clears old (Err fault) path local l v new = (new ≡ old) × (v ≡ faulty_as local fault)
 
 -- its folder is there, and cleared of what stopped fetches left
-pub record GetsListed {F : Type 0} (finds : F → List ℕ → Kind → F → Type 0) (makes : F → List ℕ → Result Unit LocalFault → F → Type 0) (clears : F → List ℕ → F → Type 0) (old : F) (path : List (List ℕ)) (local : List ℕ) (l : Listed) (v : Visited) (new : F) : Type 0 where
+pub record GetsListed {F : Type 0} (finds : F → Bool → List ℕ → Kind → F → Type 0) (makes : F → List ℕ → Result Unit LocalFault → F → Type 0) (clears : F → List ℕ → F → Type 0) (old : F) (path : List (List ℕ)) (local : List ℕ) (l : Listed) (v : Visited) (new : F) : Type 0 where
   pub made : Result Unit LocalFault
   pub between : F
   pub places : MakesFolder finds makes old local made between
@@ -79,11 +79,11 @@ abbrev pub Unlisted : {R : Type 0} → (asks : R → Command → Answer → R �
 Unlisted asks old true path local w v new = LooksAgain asks old path local w v new
 Unlisted asks old false path local w v new = (new ≡ old) × (v ≡ refused_as path w)
 
-abbrev pub GetsIfListed : {R F : Type 0} → (asks : R → Command → Answer → R → Type 0) → (finds : F → List ℕ → Kind → F → Type 0) → (makes : F → List ℕ → Result Unit LocalFault → F → Type 0) → (clears : F → List ℕ → F → Type 0) → R → F → (listing : Answer) → (path : List (List ℕ)) → (local : List ℕ) → Visited → R → F → Type 0
+abbrev pub GetsIfListed : {R F : Type 0} → (asks : R → Command → Answer → R → Type 0) → (finds : F → Bool → List ℕ → Kind → F → Type 0) → (makes : F → List ℕ → Result Unit LocalFault → F → Type 0) → (clears : F → List ℕ → F → Type 0) → R → F → (listing : Answer) → (path : List (List ℕ)) → (local : List ℕ) → Visited → R → F → Type 0
 GetsIfListed asks finds makes clears old host (answer.Names l) path local v new host' = (new ≡ old) × GetsListed finds makes clears host path local l v host'
 GetsIfListed asks finds makes clears old host a path local v new host' = (host' ≡ host) × Unlisted asks old (is_no_directory (why_of a)) path local (why_of a) v new
 
-pub record GetsDirectory {R F : Type 0} (asks : R → Command → Answer → R → Type 0) (finds : F → List ℕ → Kind → F → Type 0) (makes : F → List ℕ → Result Unit LocalFault → F → Type 0) (clears : F → List ℕ → F → Type 0) (old : R) (host : F) (path : List (List ℕ)) (local : List ℕ) (v : Visited) (new : R) (host' : F) : Type 0 where
+pub record GetsDirectory {R F : Type 0} (asks : R → Command → Answer → R → Type 0) (finds : F → Bool → List ℕ → Kind → F → Type 0) (makes : F → List ℕ → Result Unit LocalFault → F → Type 0) (clears : F → List ℕ → F → Type 0) (old : R) (host : F) (path : List (List ℕ)) (local : List ℕ) (v : Visited) (new : R) (host' : F) : Type 0 where
   pub listing : Answer
   pub between : R
   pub lists : AsksOn asks old (command_on deed.List path) listing between
@@ -98,20 +98,20 @@ not_deep_as path = said_of path (why.Refused 21) (codes "it is a directory (get 
 abbrev pub Ends : {R F : Type 0} → R → F → (v w : Visited) → R → F → Type 0
 Ends old host v w new host' = (new ≡ old) × (host' ≡ host) × (v ≡ w)
 
-abbrev pub GetsIfDeep : {R F : Type 0} → (asks : R → Command → Answer → R → Type 0) → (finds : F → List ℕ → Kind → F → Type 0) → (makes : F → List ℕ → Result Unit LocalFault → F → Type 0) → (clears : F → List ℕ → F → Type 0) → R → F → (deep : Bool) → (path : List (List ℕ)) → (local : List ℕ) → Visited → R → F → Type 0
+abbrev pub GetsIfDeep : {R F : Type 0} → (asks : R → Command → Answer → R → Type 0) → (finds : F → Bool → List ℕ → Kind → F → Type 0) → (makes : F → List ℕ → Result Unit LocalFault → F → Type 0) → (clears : F → List ℕ → F → Type 0) → R → F → (deep : Bool) → (path : List (List ℕ)) → (local : List ℕ) → Visited → R → F → Type 0
 GetsIfDeep asks finds makes clears old host true path local v new host' = GetsDirectory asks finds makes clears old host path local v new host'
 GetsIfDeep asks finds makes clears old host false path local v new host' = Ends old host v (not_deep_as path) new host'
 
-abbrev pub GetsElse : {R F : Type 0} → (asks : R → Command → Answer → R → Type 0) → (finds : F → List ℕ → Kind → F → Type 0) → (makes : F → List ℕ → Result Unit LocalFault → F → Type 0) → (clears : F → List ℕ → F → Type 0) → R → F → (is_dir : Bool) → (path : List (List ℕ)) → (local : List ℕ) → (deep : Bool) → Why → Visited → R → F → Type 0
+abbrev pub GetsElse : {R F : Type 0} → (asks : R → Command → Answer → R → Type 0) → (finds : F → Bool → List ℕ → Kind → F → Type 0) → (makes : F → List ℕ → Result Unit LocalFault → F → Type 0) → (clears : F → List ℕ → F → Type 0) → R → F → (is_dir : Bool) → (path : List (List ℕ)) → (local : List ℕ) → (deep : Bool) → Why → Visited → R → F → Type 0
 GetsElse asks finds makes clears old host true path local deep w v new host' = GetsIfDeep asks finds makes clears old host deep path local v new host'
 GetsElse asks finds makes clears old host false path local deep w v new host' = Ends old host v (refused_as path w) new host'
 
-abbrev pub GetsAs : {R F : Type 0} → (asks : R → Command → Answer → R → Type 0) → (finds : F → List ℕ → Kind → F → Type 0) → (makes : F → List ℕ → Result Unit LocalFault → F → Type 0) → (clears : F → List ℕ → F → Type 0) → R → F → (path : List (List ℕ)) → (local : List ℕ) → (deep : Bool) → Got → Visited → R → F → Type 0
+abbrev pub GetsAs : {R F : Type 0} → (asks : R → Command → Answer → R → Type 0) → (finds : F → Bool → List ℕ → Kind → F → Type 0) → (makes : F → List ℕ → Result Unit LocalFault → F → Type 0) → (clears : F → List ℕ → F → Type 0) → R → F → (path : List (List ℕ)) → (local : List ℕ) → (deep : Bool) → Got → Visited → R → F → Type 0
 GetsAs asks finds makes clears old host path local deep (got.Fine n) v new host' = Ends old host v (one_file n) new host'
 GetsAs asks finds makes clears old host path local deep (got.Refused w) v new host' = GetsElse asks finds makes clears old host (is_directory_for w) path local deep w v new host'
 GetsAs asks finds makes clears old host path local deep (got.Fault fault) v new host' = Ends old host v (faulty_as local fault) new host'
 
-pub record GetsFile {R F : Type 0} (asks : R → Command → Answer → R → Type 0) (content : R → ℕ → List ℕ) (finds : F → List ℕ → Kind → F → Type 0) (writes : F → List ℕ → List ℕ → Result Unit LocalFault → F → Type 0) (makes tries : F → List ℕ → Result Unit LocalFault → F → Type 0) (clears : F → List ℕ → F → Type 0) (old : R) (host : F) (path : List (List ℕ)) (local : List ℕ) (deep : Bool) (id : Option ℕ) (v : Visited) (new : R) (host' : F) : Type 0 where
+pub record GetsFile {R F : Type 0} (asks : R → Command → Answer → R → Type 0) (content : R → ℕ → List ℕ) (finds : F → Bool → List ℕ → Kind → F → Type 0) (writes : F → List ℕ → List ℕ → Result Unit LocalFault → F → Type 0) (makes tries : F → List ℕ → Result Unit LocalFault → F → Type 0) (clears : F → List ℕ → F → Type 0) (old : R) (host : F) (path : List (List ℕ)) (local : List ℕ) (deep : Bool) (id : Option ℕ) (v : Visited) (new : R) (host' : F) : Type 0 where
   pub got : Got
   pub between : R
   pub here : F
@@ -130,7 +130,7 @@ pub record OffersFile {R F : Type 0} (offers : R → List ℕ → R → Type 0) 
   pub read : reads host local bytes host'
   pub offered : OffersIf offers old bytes new
 
-pub record GetsOver {R F : Type 0} (asks : R → Command → Answer → R → Type 0) (content : R → ℕ → List ℕ) (offers : R → List ℕ → R → Type 0) (finds : F → List ℕ → Kind → F → Type 0) (reads : F → List ℕ → Result (List ℕ) LocalFault → F → Type 0) (writes : F → List ℕ → List ℕ → Result Unit LocalFault → F → Type 0) (makes tries : F → List ℕ → Result Unit LocalFault → F → Type 0) (clears : F → List ℕ → F → Type 0) (old : R) (host : F) (path : List (List ℕ)) (local : List ℕ) (deep : Bool) (id : Option ℕ) (v : Visited) (new : R) (host' : F) : Type 0 where
+pub record GetsOver {R F : Type 0} (asks : R → Command → Answer → R → Type 0) (content : R → ℕ → List ℕ) (offers : R → List ℕ → R → Type 0) (finds : F → Bool → List ℕ → Kind → F → Type 0) (reads : F → List ℕ → Result (List ℕ) LocalFault → F → Type 0) (writes : F → List ℕ → List ℕ → Result Unit LocalFault → F → Type 0) (makes tries : F → List ℕ → Result Unit LocalFault → F → Type 0) (clears : F → List ℕ → F → Type 0) (old : R) (host : F) (path : List (List ℕ)) (local : List ℕ) (deep : Bool) (id : Option ℕ) (v : Visited) (new : R) (host' : F) : Type 0 where
   pub between : R
   pub here : F
   pub first : OffersFile offers reads old host local between here
@@ -145,29 +145,29 @@ pub record NotInto {R : Type 0} (asks : R → Command → Answer → R → Type 
   pub looks : AsksOn asks old (command_on deed.Look path) looked new
   pub is_told : v ≡ not_into_as path local looked
 
-abbrev pub GetsInto : {R F : Type 0} → (asks : R → Command → Answer → R → Type 0) → (finds : F → List ℕ → Kind → F → Type 0) → (makes : F → List ℕ → Result Unit LocalFault → F → Type 0) → (clears : F → List ℕ → F → Type 0) → R → F → (deep : Bool) → (path : List (List ℕ)) → (local : List ℕ) → Visited → R → F → Type 0
+abbrev pub GetsInto : {R F : Type 0} → (asks : R → Command → Answer → R → Type 0) → (finds : F → Bool → List ℕ → Kind → F → Type 0) → (makes : F → List ℕ → Result Unit LocalFault → F → Type 0) → (clears : F → List ℕ → F → Type 0) → R → F → (deep : Bool) → (path : List (List ℕ)) → (local : List ℕ) → Visited → R → F → Type 0
 GetsInto asks finds makes clears old host true path local v new host' = GetsDirectory asks finds makes clears old host path local v new host'
 GetsInto asks finds makes clears old host false path local v new host' = (host' ≡ host) × NotInto asks old path local v new
 
-abbrev pub GetsKind : {R F : Type 0} → (asks : R → Command → Answer → R → Type 0) → (content : R → ℕ → List ℕ) → (offers : R → List ℕ → R → Type 0) → (finds : F → List ℕ → Kind → F → Type 0) → (reads : F → List ℕ → Result (List ℕ) LocalFault → F → Type 0) → (writes : F → List ℕ → List ℕ → Result Unit LocalFault → F → Type 0) → (makes tries : F → List ℕ → Result Unit LocalFault → F → Type 0) → (clears : F → List ℕ → F → Type 0) → R → F → Kind → (path : List (List ℕ)) → (local : List ℕ) → (deep : Bool) → Option ℕ → Visited → R → F → Type 0
+abbrev pub GetsKind : {R F : Type 0} → (asks : R → Command → Answer → R → Type 0) → (content : R → ℕ → List ℕ) → (offers : R → List ℕ → R → Type 0) → (finds : F → Bool → List ℕ → Kind → F → Type 0) → (reads : F → List ℕ → Result (List ℕ) LocalFault → F → Type 0) → (writes : F → List ℕ → List ℕ → Result Unit LocalFault → F → Type 0) → (makes tries : F → List ℕ → Result Unit LocalFault → F → Type 0) → (clears : F → List ℕ → F → Type 0) → R → F → Kind → (path : List (List ℕ)) → (local : List ℕ) → (deep : Bool) → Option ℕ → Visited → R → F → Type 0
 GetsKind asks content offers finds reads writes makes tries clears old host kinds.Folder path local deep id v new host' = GetsInto asks finds makes clears old host deep path local v new host'
 GetsKind asks content offers finds reads writes makes tries clears old host kinds.File path local deep id v new host' = GetsOver asks content offers finds reads writes makes tries clears old host path local deep id v new host'
 GetsKind asks content offers finds reads writes makes tries clears old host k path local deep id v new host' = GetsFile asks content finds writes makes tries clears old host path local deep id v new host'
 
-pub record GetsFound {R F : Type 0} (asks : R → Command → Answer → R → Type 0) (content : R → ℕ → List ℕ) (offers : R → List ℕ → R → Type 0) (finds : F → List ℕ → Kind → F → Type 0) (reads : F → List ℕ → Result (List ℕ) LocalFault → F → Type 0) (writes : F → List ℕ → List ℕ → Result Unit LocalFault → F → Type 0) (makes tries : F → List ℕ → Result Unit LocalFault → F → Type 0) (clears : F → List ℕ → F → Type 0) (old : R) (host : F) (path : List (List ℕ)) (local : List ℕ) (deep : Bool) (id : Option ℕ) (v : Visited) (new : R) (host' : F) : Type 0 where
+pub record GetsFound {R F : Type 0} (asks : R → Command → Answer → R → Type 0) (content : R → ℕ → List ℕ) (offers : R → List ℕ → R → Type 0) (finds : F → Bool → List ℕ → Kind → F → Type 0) (reads : F → List ℕ → Result (List ℕ) LocalFault → F → Type 0) (writes : F → List ℕ → List ℕ → Result Unit LocalFault → F → Type 0) (makes tries : F → List ℕ → Result Unit LocalFault → F → Type 0) (clears : F → List ℕ → F → Type 0) (old : R) (host : F) (path : List (List ℕ)) (local : List ℕ) (deep : Bool) (id : Option ℕ) (v : Visited) (new : R) (host' : F) : Type 0 where
   pub kind : Kind
   pub here : F
-  pub found : finds host local kind here
+  pub found : finds host true local kind here
   pub goes_on : GetsKind asks content offers finds reads writes makes tries clears old here kind path local deep id v new host'
 
 -- the root is a directory
 abbrev pub is_root : (deep : Bool) → (path : List (List ℕ)) → Bool
 is_root deep path = deep && (length path == 0)
 
-abbrev pub GetsUnless : {R F : Type 0} → (asks : R → Command → Answer → R → Type 0) → (content : R → ℕ → List ℕ) → (offers : R → List ℕ → R → Type 0) → (finds : F → List ℕ → Kind → F → Type 0) → (reads : F → List ℕ → Result (List ℕ) LocalFault → F → Type 0) → (writes : F → List ℕ → List ℕ → Result Unit LocalFault → F → Type 0) → (makes tries : F → List ℕ → Result Unit LocalFault → F → Type 0) → (clears : F → List ℕ → F → Type 0) → R → F → (is_root : Bool) → (path : List (List ℕ)) → (local : List ℕ) → (deep : Bool) → Option ℕ → Visited → R → F → Type 0
+abbrev pub GetsUnless : {R F : Type 0} → (asks : R → Command → Answer → R → Type 0) → (content : R → ℕ → List ℕ) → (offers : R → List ℕ → R → Type 0) → (finds : F → Bool → List ℕ → Kind → F → Type 0) → (reads : F → List ℕ → Result (List ℕ) LocalFault → F → Type 0) → (writes : F → List ℕ → List ℕ → Result Unit LocalFault → F → Type 0) → (makes tries : F → List ℕ → Result Unit LocalFault → F → Type 0) → (clears : F → List ℕ → F → Type 0) → R → F → (is_root : Bool) → (path : List (List ℕ)) → (local : List ℕ) → (deep : Bool) → Option ℕ → Visited → R → F → Type 0
 GetsUnless asks content offers finds reads writes makes tries clears old host true path local deep id v new host' = GetsDirectory asks finds makes clears old host path local v new host'
 GetsUnless asks content offers finds reads writes makes tries clears old host false path local deep id v new host' = GetsFound asks content offers finds reads writes makes tries clears old host path local deep id v new host'
 
 -- what has the path goes to the path of the host's
-abbrev pub GetsAt : {R F : Type 0} → (asks : R → Command → Answer → R → Type 0) → (content : R → ℕ → List ℕ) → (offers : R → List ℕ → R → Type 0) → (finds : F → List ℕ → Kind → F → Type 0) → (reads : F → List ℕ → Result (List ℕ) LocalFault → F → Type 0) → (writes : F → List ℕ → List ℕ → Result Unit LocalFault → F → Type 0) → (makes tries : F → List ℕ → Result Unit LocalFault → F → Type 0) → (clears : F → List ℕ → F → Type 0) → R → F → (path : List (List ℕ)) → (local : List ℕ) → (deep : Bool) → Option ℕ → Visited → R → F → Type 0
+abbrev pub GetsAt : {R F : Type 0} → (asks : R → Command → Answer → R → Type 0) → (content : R → ℕ → List ℕ) → (offers : R → List ℕ → R → Type 0) → (finds : F → Bool → List ℕ → Kind → F → Type 0) → (reads : F → List ℕ → Result (List ℕ) LocalFault → F → Type 0) → (writes : F → List ℕ → List ℕ → Result Unit LocalFault → F → Type 0) → (makes tries : F → List ℕ → Result Unit LocalFault → F → Type 0) → (clears : F → List ℕ → F → Type 0) → R → F → (path : List (List ℕ)) → (local : List ℕ) → (deep : Bool) → Option ℕ → Visited → R → F → Type 0
 GetsAt asks content offers finds reads writes makes tries clears old host path local deep id v new host' = GetsUnless asks content offers finds reads writes makes tries clears old host (is_root deep path) path local deep id v new host'

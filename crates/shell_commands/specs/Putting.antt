@@ -1,5 +1,5 @@
 -- What a storing comes to, over whatever a client does at any command (`asks`) and whatever comes of a call of the host's files: what is asked, what is told, and which tasks come.
-use Rattle.std.specs.Prelude.{◌≡◌, ℕ, ◌==◌, ◌&&◌, ◌||◌, List, [], ◌∷◌, ◌++◌, length, Bool, true, false, Option, Some, None, is_some, Result, Ok, Err, codes}
+use Rattle.std.specs.Prelude.{◌≡◌, ℕ, ◌==◌, ◌&&◌, ◌||◌, List, [], ◌∷◌, ◌++◌, length, Bool, true, false, not, Option, Some, None, is_some, Result, Ok, Err, codes}
 use Rattle.command_text.specs.declared.command.Command.{Command}
 use Rattle.shell_walks.specs.Asking.{command_on, AsksOn}
 use Rattle.shell_walks.specs.Removing.{RemovesAll}
@@ -178,8 +178,9 @@ PutsKind asks content offers reads lists old host kinds.Link local path s v new 
 PutsKind asks content offers reads lists old host kinds.Other local path s v new host' = Stays old host local faults.Odd v new host'
 PutsKind asks content offers reads lists old host (kinds.Hidden fault) local path s v new host' = Stays old host local fault v new host'
 
-pub record Puts {R F : Type 0} (asks : R → Command → Answer → R → Type 0) (content : R → ℕ → List ℕ) (offers : R → List ℕ → R → Type 0) (finds : F → List ℕ → Kind → F → Type 0) (reads : F → List ℕ → Result (List ℕ) LocalFault → F → Type 0) (lists : F → List ℕ → Result (List (List ℕ)) LocalFault → F → Type 0) (old : R) (host : F) (local : List ℕ) (path : List (List ℕ)) (s : Storing) (v : Visited) (new : R) (host' : F) : Type 0 where
+-- a link that is met in a folder isn't followed
+pub record Puts {R F : Type 0} (asks : R → Command → Answer → R → Type 0) (content : R → ℕ → List ℕ) (offers : R → List ℕ → R → Type 0) (finds : F → Bool → List ℕ → Kind → F → Type 0) (reads : F → List ℕ → Result (List ℕ) LocalFault → F → Type 0) (lists : F → List ℕ → Result (List (List ℕ)) LocalFault → F → Type 0) (old : R) (host : F) (local : List ℕ) (path : List (List ℕ)) (s : Storing) (v : Visited) (new : R) (host' : F) : Type 0 where
   pub kind : Kind
   pub between : F
-  pub found : finds host local kind between
+  pub found : finds host (not s.inner) local kind between
   pub goes_on : PutsKind asks content offers reads lists old between kind local path s v new host'

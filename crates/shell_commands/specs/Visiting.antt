@@ -126,9 +126,9 @@ CountsFor asks content offers reads writes tries old (task.Remove path) v new = 
 -- ---- what a task leaves alone
 
 -- calls of the host's files, one after the other, each on this path
-pub data Touches {F : Type 0} (finds : F → List ℕ → Kind → F → Type 0) (reads : F → List ℕ → Result (List ℕ) LocalFault → F → Type 0) (writes : F → List ℕ → List ℕ → Result Unit LocalFault → F → Type 0) (lists : F → List ℕ → Result (List (List ℕ)) LocalFault → F → Type 0) (makes tries : F → List ℕ → Result Unit LocalFault → F → Type 0) (clears : F → List ℕ → F → Type 0) (local : List ℕ) (old : F) : F → Type 0 where
+pub data Touches {F : Type 0} (finds : F → Bool → List ℕ → Kind → F → Type 0) (reads : F → List ℕ → Result (List ℕ) LocalFault → F → Type 0) (writes : F → List ℕ → List ℕ → Result Unit LocalFault → F → Type 0) (lists : F → List ℕ → Result (List (List ℕ)) LocalFault → F → Type 0) (makes tries : F → List ℕ → Result Unit LocalFault → F → Type 0) (clears : F → List ℕ → F → Type 0) (local : List ℕ) (old : F) : F → Type 0 where
   untouched : (new : F) → new ≡ old → Touches finds reads writes lists makes tries clears local old new
-  found : (k : Kind) (mid new : F) → Touches finds reads writes lists makes tries clears local old mid → finds mid local k new → Touches finds reads writes lists makes tries clears local old new
+  found : (follows : Bool) (k : Kind) (mid new : F) → Touches finds reads writes lists makes tries clears local old mid → finds mid follows local k new → Touches finds reads writes lists makes tries clears local old new
   read : (r : Result (List ℕ) LocalFault) (mid new : F) → Touches finds reads writes lists makes tries clears local old mid → reads mid local r new → Touches finds reads writes lists makes tries clears local old new
   written : (bytes : List ℕ) (r : Result Unit LocalFault) (mid new : F) → Touches finds reads writes lists makes tries clears local old mid → writes mid local bytes r new → Touches finds reads writes lists makes tries clears local old new
   listed : (r : Result (List (List ℕ)) LocalFault) (mid new : F) → Touches finds reads writes lists makes tries clears local old mid → lists mid local r new → Touches finds reads writes lists makes tries clears local old new
@@ -137,7 +137,7 @@ pub data Touches {F : Type 0} (finds : F → List ℕ → Kind → F → Type 0)
   cleared : (mid new : F) → Touches finds reads writes lists makes tries clears local old mid → clears mid local new → Touches finds reads writes lists makes tries clears local old new
 
 -- a task of the server's tree alone touches nothing
-abbrev pub TouchesFor : {F : Type 0} → (finds : F → List ℕ → Kind → F → Type 0) → (reads : F → List ℕ → Result (List ℕ) LocalFault → F → Type 0) → (writes : F → List ℕ → List ℕ → Result Unit LocalFault → F → Type 0) → (lists : F → List ℕ → Result (List (List ℕ)) LocalFault → F → Type 0) → (makes tries : F → List ℕ → Result Unit LocalFault → F → Type 0) → (clears : F → List ℕ → F → Type 0) → Task → F → F → Type 0
+abbrev pub TouchesFor : {F : Type 0} → (finds : F → Bool → List ℕ → Kind → F → Type 0) → (reads : F → List ℕ → Result (List ℕ) LocalFault → F → Type 0) → (writes : F → List ℕ → List ℕ → Result Unit LocalFault → F → Type 0) → (lists : F → List ℕ → Result (List (List ℕ)) LocalFault → F → Type 0) → (makes tries : F → List ℕ → Result Unit LocalFault → F → Type 0) → (clears : F → List ℕ → F → Type 0) → Task → F → F → Type 0
 TouchesFor finds reads writes lists makes tries clears (task.Put local path s) old new = Touches finds reads writes lists makes tries clears local old new
 TouchesFor finds reads writes lists makes tries clears (task.Get path local deep id) old new = Touches finds reads writes lists makes tries clears local old new
 TouchesFor finds reads writes lists makes tries clears (task.Remove path) old new = new ≡ old

@@ -1,6 +1,6 @@
 //! What a shell asks of the host's files, by their paths.
 
-ghost use Rattle.std.specs.Prelude.{◌≡◌, ℕ, ◌≤◌, List, length, Result, IfOk};
+ghost use Rattle.std.specs.Prelude.{◌≡◌, ℕ, ◌≤◌, Bool, List, length, Result, IfOk};
 ghost use Rattle.limits.specs.declared.TheConstants.{FILE_MOST};
 ghost use Rattle.shell_walks.specs.declared.folder.Kind.{Kind};
 ghost use Rattle.shell_walks.specs.declared.folder.LocalFault.{LocalFault};
@@ -64,8 +64,8 @@ pub enum Kind {
 
 /// The host's files.
 pub trait Folder {
-    /// What a path may be found to stand for.
-    ghost finds: { Self → List ℕ → Kind → Self → Type 0 };
+    /// What a path may be found to stand for, by whether links are followed.
+    ghost finds: { Self → Bool → List ℕ → Kind → Self → Type 0 };
 
     /// What the reading of a file may come to.
     ghost reads: { Self → List ℕ → Result (List ℕ) LocalFault → Self → Type 0 };
@@ -87,7 +87,7 @@ pub trait Folder {
 
     /// What a path stands for. Where links are followed, a symbolic link stands for what it leads to.
     fn kind(&mut self, path: &str, follows: bool) -> Kind
-        ensures { finds self.old path.now result self.new };
+        ensures { finds self.old follows path.now result self.new };
 
     /// The bytes of a file, which has at most `FILE_MOST`, as it was at one moment as far as can be told.
     fn read(&mut self, alloc: Global, path: &str) -> Result<Bytes, LocalFault>

@@ -4,7 +4,7 @@ use Rattle.shell_commands.proofs.Touching.{first_found}
 use Rattle.shell_commands.proofs.putting.visit_put.Goals as goal
 
 pub returns-clause-touches : goal.returns-clause-touches
-returns-clause-touches g c = first_found _ _ _ _ _ c.kind-kind.ensures c.put_kind.ensures.touches
+returns-clause-touches g c = first_found _ _ _ _ _ _ c.kind-kind.ensures c.put_kind.ensures.touches
 
 pub returns-clause-exact : goal.returns-clause-exact
 returns-clause-exact g c = IfOk-weaker c.put_kind.result _ _ (λ v k. record { kind = c.kind-kind.result; between = c.kind-kind.new.self; found = c.kind-kind.ensures; goes_on = k }) c.put_kind.ensures.exact
