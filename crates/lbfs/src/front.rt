@@ -56,7 +56,8 @@ With --unsynced nothing is flushed to the disk before it is answered.
 const SHELL: &str = "lbfs shell --port P [--links N] [--cache NAME] [--quiet] [COMMAND ..]
 Does COMMAND, or what is typed, on the folder that is served at port P of this
 host, over N connections at once, 8 where none are given. NAME is a cache file.
-With --quiet neither how far a command is nor what it came to is said.
+With --quiet neither how far a command is, nor what a sync does, nor what it
+came to is said.
 
 ";
 
