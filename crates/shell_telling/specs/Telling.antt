@@ -64,9 +64,9 @@ abbrev pub line_part : (wire spent : ℕ) → List ℕ
 line_part wire spent = size_text wire ++ codes " on the line, " ++ rate_text wire spent
 
 abbrev pub waits_text : List ℕ
-waits_text = codes "waiting for the server (a lease, or its start?)"
+waits_text = codes "waiting (the line, a lease, or the server's start?)"
 
--- where no byte has gone over the line for two seconds, what is asked for waits: a close does while another client's lease lasts, and first one that the run before may have granted
+-- where no byte has gone over the line for two seconds, what is asked for waits: a slow line's answer does, a close while another client's lease lasts, and first one that the run before may have granted
 abbrev pub pace_text : Glance → List ℕ
 pace_text g =
     if nat_le 2000 g.still then waits_text

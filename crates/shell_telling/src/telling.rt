@@ -36,7 +36,7 @@ const STILL: u64 = 2_000;
 fn waits_words() -> &'static [u8]
     ensures { result.now ≡ waits_text }
 {
-    b"waiting for the server (a lease, or its start?)"
+    b"waiting (the line, a lease, or the server's start?)"
 }
 
 /// So many of something.
