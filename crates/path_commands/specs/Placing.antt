@@ -69,14 +69,22 @@ abbrev pub instead_as : Place → Place
 instead_as place.New = place.Instead
 instead_as p = p
 
+pub record MakesAgain {R : Type 0} (asks : R → Command → Answer → R → Type 0) (old : R) (path : List (List ℕ)) (p : Place) (new : R) : Type 0 where
+  pub again : Place
+  pub places : Places asks old path again new
+  pub is : p ≡ instead_as again
+
+-- where it wasn't removed, why it wasn't is why there is no directory
+abbrev pub AgainIf : {R : Type 0} → (asks : R → Command → Answer → R → Type 0) → R → List (List ℕ) → (gone : Answer) → Place → R → Type 0
+AgainIf asks old path answer.Done p new = MakesAgain asks old path p new
+AgainIf asks old path gone p new = (new ≡ old) × (p ≡ place.None (why_of gone))
+
 -- it is asked to go, and a directory is made once more
 pub record MakesInstead {R : Type 0} (asks : R → Command → Answer → R → Type 0) (old : R) (path : List (List ℕ)) (p : Place) (new : R) : Type 0 where
   pub gone : Answer
   pub between : R
   pub removes : AsksOn asks old (command_on deed.Remove path) gone between
-  pub again : Place
-  pub places : Places asks between path again new
-  pub is : p ≡ instead_as again
+  pub goes_on : AgainIf asks between path gone p new
 
 abbrev pub OverIf : {R : Type 0} → (asks : R → Command → Answer → R → Type 0) → R → (may_go : Bool) → List (List ℕ) → (before p : Place) → R → Type 0
 OverIf asks old true path before p new = MakesInstead asks old path p new

@@ -1,7 +1,7 @@
 //! Where a folder of the host goes: its directory is made, where there is none (`specs/Placing.antt`).
 
 ghost use Rattle.std.specs.Prelude.{◌≡◌, ◌&&◌, IfOk};
-ghost use Rattle.path_commands.specs.Placing.{there_as, LooksThere, is_taken, made_as, PlacesIf, MakesPlace, Places, is_in_the_way, instead_as, MakesInstead, OverIf, PlacesOver};
+ghost use Rattle.path_commands.specs.Placing.{there_as, LooksThere, is_taken, made_as, PlacesIf, MakesPlace, Places, is_in_the_way, instead_as, MakesAgain, AgainIf, MakesInstead, OverIf, PlacesOver};
 ghost use Rattle.path_commands.specs.Placing.{is_new, ListsIf, made_news, no_place, place_news};
 ghost use Rattle.path_commands.specs.declared.placing.Place.TheVariants as places;
 
@@ -126,6 +126,29 @@ fn instead_as(place: Place) -> Place
     }
 }
 
+/// A directory is made in the place of a file that was removed.
+fn make_again<R: Remote>(alloc: Global, remote: &mut R, path: &[Name]) -> Result<Place, AllocError>
+    ensures { IfOk result (λ p. MakesAgain R.asks remote.old path.now p remote.new) }
+{
+    let again = make_place(alloc, remote, path)?;
+    Ok(instead_as(again))
+}
+
+/// The same, where it was removed. Where it wasn't, that is why there is no directory.
+fn again_if<R: Remote>(
+    alloc: Global,
+    remote: &mut R,
+    path: &[Name],
+    gone: &Answer,
+) -> Result<Place, AllocError>
+    ensures { IfOk result (λ p. AgainIf R.asks remote.old path.now gone.now p remote.new) }
+{
+    match gone {
+        Answer::Done => make_again(alloc, remote, path),
+        gone => Ok(Place::None(why_of(gone))),
+    }
+}
+
 /// A file goes, and a directory is made in its place.
 fn make_instead<R: Remote>(
     alloc: Global,
@@ -134,9 +157,8 @@ fn make_instead<R: Remote>(
 ) -> Result<Place, AllocError>
     ensures { IfOk result (λ p. MakesInstead R.asks remote.old path.now p remote.new) }
 {
-    drop(ask_on(alloc, remote, Deed::Remove, path)?);
-    let again = make_place(alloc, remote, path)?;
-    Ok(instead_as(again))
+    let gone = ask_on(alloc, remote, Deed::Remove, path)?;
+    again_if(alloc, remote, path, &gone)
 }
 
 /// A directory is made in the place of a file, where that goes.
