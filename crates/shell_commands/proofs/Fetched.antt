@@ -36,12 +36,12 @@ clear_fine : {F : Type 0} (clears : F → List ℕ → F → Type 0) (old new : 
 clear_fine clears old new path local deep id l v (Ok u) k = fine_as (task.Get path local deep id) v _ k.1 (gets_come path local deep id l.ids 0 l.names) refl
 clear_fine clears old new path local deep id l v (Err fault) k = none_fine (task.Get path local deep id) v _ k.1 refl refl
 
-misplaced_fine : (t : Task) (path : List (List ℕ)) (local : List ℕ) (w : Why) (v : Visited) (a : Answer) → v ≡ misplaced path local w a → Fine t v
-misplaced_fine t path local w v (answer.Seen seen) e = none_fine t v _ e refl refl
-misplaced_fine t path local w v a e = none_fine t v _ e refl refl
+misplaced_fine : (t : Task) (path : List (List ℕ)) (local : List ℕ) (v : Visited) (a : Answer) → v ≡ misplaced path local a → Fine t v
+misplaced_fine t path local v (answer.Seen seen) e = none_fine t v _ e refl refl
+misplaced_fine t path local v a e = none_fine t v _ e refl refl
 
 unlisted_fine : {R : Type 0} (asks : R → Command → Answer → R → Type 0) (old new : R) (t : Task) (path : List (List ℕ)) (local : List ℕ) (w : Why) (v : Visited) (b : Bool) → Unlisted asks old b path local w v new → Fine t v
-unlisted_fine asks old new t path local w v true k = misplaced_fine t path local w v k.looked k.is_told
+unlisted_fine asks old new t path local w v true k = misplaced_fine t path local v k.looked k.is_told
 unlisted_fine asks old new t path local w v false k = none_fine t v _ k.1 refl refl
 
 listed_fine : {R F : Type 0} (asks : R → Command → Answer → R → Type 0) (finds : F → Bool → List ℕ → Kind → F → Type 0) (makes : F → List ℕ → Result Unit LocalFault → F → Type 0) (clears : F → List ℕ → F → Type 0) (old new : R) (h h' : F) (path : List (List ℕ)) (local : List ℕ) (deep : Bool) (id : Option ℕ) (v : Visited) (a : Answer) → GetsIfListed asks finds makes clears old h a path local v new h' → Fine (task.Get path local deep id) v

@@ -65,18 +65,18 @@ pub record GetsListed {F : Type 0} (finds : F → Bool → List ℕ → Kind →
   pub places : MakesFolder finds makes old local made between
   pub goes_on : ClearsIf clears between made path local l v new
 
--- a file has no place where a folder is to be
-abbrev pub misplaced : (path : List (List ℕ)) → (local : List ℕ) → Why → Answer → Visited
-misplaced path local w (answer.Seen seen) = faulty_as local faults.IsFolder
-misplaced path local w a = refused_as path w
+-- a file has no place where a folder is to be. Where the look failed, that is said
+abbrev pub misplaced : (path : List (List ℕ)) → (local : List ℕ) → Answer → Visited
+misplaced path local (answer.Seen seen) = faulty_as local faults.IsFolder
+misplaced path local a = refused_as path (why_of a)
 
-pub record LooksAgain {R : Type 0} (asks : R → Command → Answer → R → Type 0) (old : R) (path : List (List ℕ)) (local : List ℕ) (w : Why) (v : Visited) (new : R) : Type 0 where
+pub record LooksAgain {R : Type 0} (asks : R → Command → Answer → R → Type 0) (old : R) (path : List (List ℕ)) (local : List ℕ) (v : Visited) (new : R) : Type 0 where
   pub looked : Answer
   pub looks : AsksOn asks old (command_on deed.Look path) looked new
-  pub is_told : v ≡ misplaced path local w looked
+  pub is_told : v ≡ misplaced path local looked
 
 abbrev pub Unlisted : {R : Type 0} → (asks : R → Command → Answer → R → Type 0) → R → (is_file : Bool) → (path : List (List ℕ)) → (local : List ℕ) → Why → Visited → R → Type 0
-Unlisted asks old true path local w v new = LooksAgain asks old path local w v new
+Unlisted asks old true path local w v new = LooksAgain asks old path local v new
 Unlisted asks old false path local w v new = (new ≡ old) × (v ≡ refused_as path w)
 
 abbrev pub GetsIfListed : {R F : Type 0} → (asks : R → Command → Answer → R → Type 0) → (finds : F → Bool → List ℕ → Kind → F → Type 0) → (makes : F → List ℕ → Result Unit LocalFault → F → Type 0) → (clears : F → List ℕ → F → Type 0) → R → F → (listing : Answer) → (path : List (List ℕ)) → (local : List ℕ) → Visited → R → F → Type 0

@@ -130,14 +130,13 @@ fn misplaced(
     alloc: Global,
     path: &[Name],
     local: &str,
-    why: Why,
     looked: &Answer,
 ) -> Result<Visited, AllocError>
-    ensures { IfOk result (λ v. v ≡ misplaced path.now local.now why looked.now) }
+    ensures { IfOk result (λ v. v ≡ misplaced path.now local.now looked.now) }
 {
     match looked {
         Answer::Seen(_) => faulty(alloc, local, LocalFault::IsFolder),
-        _ => refused(alloc, path, why),
+        looked => refused(alloc, path, why_of(looked)),
     }
 }
 
@@ -147,12 +146,11 @@ fn look_again<R: Remote>(
     remote: &mut R,
     path: &[Name],
     local: &str,
-    why: Why,
 ) -> Result<Visited, AllocError>
-    ensures { IfOk result (λ v. LooksAgain R.asks remote.old path.now local.now why v remote.new) }
+    ensures { IfOk result (λ v. LooksAgain R.asks remote.old path.now local.now v remote.new) }
 {
     let looked = ask_on(alloc, remote, Deed::Look, path)?;
-    misplaced(alloc, path, local, why, &looked)
+    misplaced(alloc, path, local, &looked)
 }
 
 /// Whether it is none that was asked to be listed.
@@ -174,7 +172,7 @@ fn unlisted<R: Remote>(
     ensures { IfOk result (λ v. Unlisted R.asks remote.old is_file path.now local.now why v remote.new) }
 {
     if is_file {
-        look_again(alloc, remote, path, local, why)
+        look_again(alloc, remote, path, local)
     } else {
         refused(alloc, path, why)
     }
