@@ -1,11 +1,11 @@
 -- The chunks of a content are items: each has some bytes, and none too many.
-use Rattle.std.proofs.Common.{◌≡◌, ℕ, ◌+◌, ◌-◌, ◌<◌, ◌≤◌, List, [], ◌∷◌, ◌++◌, length, map, take, drop, Bool, true, false, nat_lt, inl, inr, refl, sym, ap, subst, ◌∙◌, arith}
-use Rattle.std.specs.Prelude.{nat_le, if◌then◌else◌}
+use Rattle.std.proofs.Common.{◌≡◌, ℕ, ◌+◌, ◌-◌, ◌<◌, ◌≤◌, List, [], ◌∷◌, ◌++◌, length, map, take, drop, Bool, true, false, nat_lt, inl, inr, refl, sym, subst, arith}
+use Rattle.std.specs.Prelude.{nat_le, ◌==◌, if◌then◌else◌}
 use Rattle.std.specs.List.{All, flat_map}
 use Rattle.std.proofs.lemmas.Bool.Decides.{nat_tests}
 use Rattle.std.proofs.lemmas.List.{length-take, length-drop}
 use Rattle.std.proofs.lemmas.List.Elements.{All-nil, All-cons, All-append, All-head, All-tail}
-use Rattle.limits.specs.declared.TheConstants.{CHUNK_MOST, CHUNK_LEAST}
+use Rattle.limits.specs.declared.TheConstants.{CHUNK_MOST}
 use Rattle.chunk_cut.specs.Chunks.{chunk_at, chunks_between, chunks_of}
 use Rattle.chunk_cut.specs.Places.{chunk_bytes}
 use Rattle.chunk_cut.specs.Ends.{IsOpen, IsNextEnd, AreEndsFrom, AreEnds}
@@ -13,7 +13,7 @@ use Rattle.chunk_cut.specs.Search.{ends}
 use Rattle.client_cache.specs.Cache.{Entries, contents_in}
 use Rattle.cache_file.specs.Items.{IsItem}
 use Rattle.sha1.specs.Sha1.{sha1}
-use Rattle.cache_file.specs.Saved.{pieces_of, pieces_in, is_seen, with_digest, once_from, taken, within, saved}
+use Rattle.cache_file.specs.Saved.{given_file, pieces_of, pieces_kept, pieces_in, is_seen, with_digest, once_from, taken, within, saved}
 
 -- where no chunk may end what is left is no longer than the longest
 open_small : (content : List ℕ) (s : ℕ) → IsOpen content s → length content ≤ s + CHUNK_MOST
@@ -49,9 +49,16 @@ pub record Cut : Type 0 where
 of_content : Cut → (content : List ℕ) → All IsItem (pieces_of content)
 of_content law content = subst (λ cs. All IsItem (map (chunk_bytes content) cs)) (sym (law.chunks content)) (between_items content (ends content) 0 (law.found content))
 
-of_contents : Cut → (cs : List (ℕ × List ℕ)) → All IsItem (flat_map (λ e. pieces_of e.1) cs)
+of_kept : Cut → (c : ℕ × List ℕ) → All IsItem (pieces_kept c)
+of_kept law c = by (c.0 == given_file)
+  where
+    by : (b : Bool) → All IsItem (if b then [] else pieces_of c.1)
+    by true = All-nil IsItem
+    by false = of_content law c.1
+
+of_contents : Cut → (cs : List (ℕ × List ℕ)) → All IsItem (flat_map pieces_kept cs)
 of_contents law [] = All-nil IsItem
-of_contents law (c ∷ cs) = All-append IsItem (pieces_of c.1) (flat_map (λ e. pieces_of e.1) cs) (of_content law c.1) (of_contents law cs)
+of_contents law (c ∷ cs) = All-append IsItem (pieces_kept c) (flat_map pieces_kept cs) (of_kept law c) (of_contents law cs)
 
 -- a prefix of items
 all_within : (room : ℕ) (xs : List (List ℕ)) → All IsItem xs → All IsItem (within room xs)
@@ -71,5 +78,5 @@ all_once seen (x ∷ xs) h = by (is_seen seen (sha1 x)) (all_once seen xs (All-t
     by true without later = without
     by false without later = All-cons IsItem x (once_from (with_digest seen (sha1 x)) xs) (All-head IsItem x xs h) later
 
-pub saved_items : Cut → (entries : Entries) → All IsItem (saved entries)
-saved_items law entries = all_within _ (once_from [] (pieces_in entries)) (all_once [] (pieces_in entries) (of_contents law (contents_in entries)))
+pub saved_items : Cut → (entries : Entries) (old : List (List ℕ)) → All IsItem old → All IsItem (saved entries old)
+saved_items law entries old each = all_within _ (once_from [] (pieces_in entries ++ old)) (all_once [] (pieces_in entries ++ old) (All-append IsItem (pieces_in entries) old (of_contents law (contents_in entries)) each))

@@ -1,10 +1,10 @@
--- What of a client's cache a cache file holds.
+-- What of a client's cache a cache file holds, and of what stood in it before.
 use Rattle.std.specs.BTreeMap.{is_at}
 use Rattle.std.specs.BTreeSet.{insert_key}
 use Rattle.std.specs.Cmp.Lexicographic.{slice_cmp}
 use Rattle.std.specs.List.{flat_map, list_any}
 use Rattle.std.specs.Ordering.{nat_cmp}
-use Rattle.std.specs.Prelude.{ℕ, ◌-◌, List, [], ◌∷◌, length, map, Bool, nat_le, if◌then◌else◌}
+use Rattle.std.specs.Prelude.{ℕ, ◌-◌, List, [], ◌∷◌, ◌++◌, length, map, Bool, nat_le, ◌==◌, if◌then◌else◌}
 use Rattle.limits.specs.declared.TheConstants.{FILE_MOST}
 use Rattle.sha1.specs.Sha1.{sha1}
 use Rattle.xdr_codec.specs.Xdr.{opaque_spell}
@@ -16,9 +16,17 @@ use Rattle.client_cache.specs.Cache.{Entries, contents_in}
 abbrev pub pieces_of : List ℕ → List (List ℕ)
 pieces_of content = map (chunk_bytes content) (chunks_of content)
 
+-- the id under which a client keeps what a cache file gave: its items, one behind the other
+abbrev pub given_file : ℕ
+given_file = 0
+
+-- so these aren't cut anew, or they would be other items
+abbrev pub pieces_kept : ℕ × List ℕ → List (List ℕ)
+pieces_kept e = if e.0 == given_file then [] else pieces_of e.1
+
 -- those of all contents that are kept, the most recent first
 abbrev pub pieces_in : Entries → List (List ℕ)
-pieces_in entries = flat_map (λ e. pieces_of e.1) (contents_in entries)
+pieces_in entries = flat_map pieces_kept (contents_in entries)
 
 -- whether a digest is among these, which ascend, and these with it
 abbrev pub is_seen : (seen : List (List ℕ)) → (digest : List ℕ) → Bool
@@ -41,5 +49,6 @@ abbrev pub within : ℕ → List (List ℕ) → List (List ℕ)
 within left [] = []
 within left (x ∷ xs) = if nat_le (taken x) left then x ∷ within (left - taken x) xs else []
 
-abbrev pub saved : Entries → List (List ℕ)
-saved entries = within FILE_MOST (once_from [] (pieces_in entries))
+-- and behind them the items that stood there
+abbrev pub saved : Entries → (old : List (List ℕ)) → List (List ℕ)
+saved entries old = within FILE_MOST (once_from [] (pieces_in entries ++ old))

@@ -36,16 +36,17 @@ pub fn is_cache(bytes: &[u8]) -> bool
     looking::are_items(bytes)
 }
 
-/// What is kept in a cache file of a client's cache: the chunks of the contents that are kept, the most
-/// recent first and each once, as many from the first on as take at most 67,108,864 bytes. `load` gives them
-/// again. The one error is running out of memory.
-pub fn save(alloc: Global, cache: &Cache) -> Result<Bytes, AllocError>
-    ensures spelled { IfOk result (λ bytes. bytes ≡ spelled (saved cache.now)) }
-    ensures again { IfOk result (λ bytes. items bytes ≡ saved cache.now) }
+/// What is kept in a cache file of a client's cache, over the bytes that stood in it: the chunks of the contents
+/// that are kept, the most recent first, and behind them the items that stood there, each once, as many from the
+/// first on as take at most 67,108,864 bytes. `load` gives them again. The one error is running out of memory.
+pub fn save(alloc: Global, cache: &Cache, old: &[u8]) -> Result<Bytes, AllocError>
+    ensures spelled { IfOk result (λ bytes. bytes ≡ spelled (saved cache.now (items old.now))) }
+    ensures again { IfOk result (λ bytes. items bytes ≡ saved cache.now (items old.now)) }
 {
     chunk_cut::ends_law();
+    let stood = load(alloc, old)?;
     let mut saving = Saving::new(alloc);
-    saving.contents(alloc, cache)?;
+    saving.all(alloc, cache, stood.as_slice())?;
     Ok(saving.done())
 }
 

@@ -6,7 +6,7 @@ ghost use Rattle.limits.specs.declared.TheConstants.{FILE_MOST};
 ghost use Rattle.chunk_cut.specs.Places.{chunk_bytes};
 ghost use Rattle.cache_file.specs.Filling.{Puts, written_of};
 ghost use Rattle.cache_file.specs.Items.{spelled};
-ghost use Rattle.cache_file.specs.Saved.{pieces_of, pieces_in, taken};
+ghost use Rattle.cache_file.specs.Saved.{given_file, pieces_of, pieces_kept, pieces_in, taken};
 
 use chunk_cut::chunk::Chunk;
 use client_cache::cache::Cache;
@@ -15,6 +15,9 @@ use limits::FILE_MOST;
 use std::alloc::{AllocError, Global};
 use std::collections::BTreeSet;
 use xdr_codec::writer::Writer;
+
+/// The id under which a client keeps what a cache file gave.
+const GIVEN_FILE: u64 = 0;
 
 /// What was written so far, for how many bytes there is room, and the digests of what was written.
 pub struct Saving {
@@ -112,16 +115,50 @@ impl Saving {
         Ok(true)
     }
 
-    /// Writes the chunks of all contents that are kept, each once, as many as there is room for.
-    pub fn contents(&mut self, alloc: Global, cache: &Cache) -> Result<(), AllocError>
-        ensures { IfOk result (λ _. self.new.writer ≡ self.old.writer ++ spelled (written_of self.old (pieces_in cache.now))) }
+    /// Writes what is kept under an id: nothing of what a cache file gave, whose items are written as they are.
+    #[tactic(auto, using(crate::proofs::Filling::none))]
+    fn kept(&mut self, alloc: Global, file: u64, content: &[u8]) -> Result<bool, AllocError>
+        ensures { IfOk result (λ goes. Puts self.old (pieces_kept (file, content.now)) goes self.new) }
+    {
+        if file == GIVEN_FILE {
+            return Ok(true);
+        }
+        self.content(alloc, content)
+    }
+
+    /// Writes the chunks of all contents that are kept, each once, as many as there is room for; says whether
+    /// that was for all.
+    fn contents(&mut self, alloc: Global, cache: &Cache) -> Result<bool, AllocError>
+        ensures { IfOk result (λ goes. Puts self.old (pieces_in cache.now) goes self.new) }
     {
         let mut place = 0;
-        'contents: while let Some((_file, content)) = cache.at(place) {
-            if !self.content(alloc, content.as_slice())? {
-                return Ok(());
+        'contents: while let Some((file, content)) = cache.at(place) {
+            if !self.kept(alloc, file, content.as_slice())? {
+                return Ok(false);
             }
             place += 1;
+        }
+        Ok(true)
+    }
+
+    /// Writes these items, each once, as many as there is room for; says whether that was for all.
+    fn items(&mut self, items: &[Bytes]) -> Result<bool, AllocError>
+        ensures { IfOk result (λ goes. Puts self.old items.now goes self.new) }
+    {
+        for item in items {
+            if !self.item(item.as_slice())? {
+                return Ok(false);
+            }
+        }
+        Ok(true)
+    }
+
+    /// Writes the chunks of all contents that are kept, and behind them the items that stood there.
+    pub fn all(&mut self, alloc: Global, cache: &Cache, old: &[Bytes]) -> Result<(), AllocError>
+        ensures { IfOk result (λ _. self.new.writer ≡ self.old.writer ++ spelled (written_of self.old (pieces_in cache.now ++ old.now))) }
+    {
+        if self.contents(alloc, cache)? {
+            self.items(old)?;
         }
         Ok(())
     }

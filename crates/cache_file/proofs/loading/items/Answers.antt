@@ -1,4 +1,3 @@
-use Rattle.std.proofs.Common.{◌≡◌, ◌∙◌, ap, sym, None, Some}
 use Rattle.cache_file.proofs.Reading.{goes_on, stops}
 use Rattle.cache_file.proofs.loading.items.Goals as goal
 

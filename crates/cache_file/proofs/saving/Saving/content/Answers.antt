@@ -1,4 +1,4 @@
-use Rattle.std.proofs.Common.{◌≡◌, ◌+◌, ◌∙◌, List, [], ◌∷◌, Bool, true, false, sym, subst, ap, map, drop, ℕ}
+use Rattle.std.proofs.Common.{◌+◌, ◌∙◌, List, [], ◌∷◌, true, false, subst, ap, map, drop}
 use Rattle.std.proofs.lemmas.List.{drop_all}
 use Rattle.chunk_cut.specs.Places.{chunk_bytes}
 use Rattle.chunk_cut.specs.declared.chunk.Chunk.{Chunk}
