@@ -1,14 +1,15 @@
--- The cache file of a mount: its items are the client's, and what the client keeps is written to it.
-use Rattle.std.specs.Prelude.{◌≡◌, ◌⊎◌, ℕ, List, Option, Some, None, Result, Ok, Err, Bool, not}
+-- The cache file of a mount: its items are the client's, and what the client keeps is written to it, with the items that stand in it then.
+use Rattle.std.specs.Prelude.{◌≡◌, ◌⊎◌, refl, ℕ, List, [], Option, Some, None, Result, Ok, Err, Bool, not}
 use Rattle.cache_file.specs.Items.{is_cache, items, spelled}
-use Rattle.cache_file.specs.Saved.{saved}
+use Rattle.cache_file.specs.Saved.{given_file, saved}
 use Rattle.lb_base.specs.declared.sink.GiveError.{GiveError}
 use Rattle.lb_base.specs.declared.sink.GiveError.TheVariants as give
 use Rattle.links.specs.Files.{is_there}
 use Rattle.links.specs.declared.files.FilesError.{FilesError}
+use Rattle.links.specs.declared.files.FilesError.TheVariants as errors
 use Rattle.links.specs.declared.files.HostFile.{HostFile}
 use Rattle.client_state.specs.Bounding.{kept_within}
-use Rattle.client_state.specs.Hints.{Warms}
+use Rattle.client_state.specs.Hints.{cached_file, Warms}
 use Rattle.client_state.specs.State.{State}
 use Rattle.client_state.specs.declared.step.Outcome.TheVariants as outcome
 use Rattle.lbfs_client.specs.Host.{Host, HasRead, HasWritten}
@@ -61,9 +62,26 @@ pub record Writes (old : Host) (name bytes : List ℕ) (told : Option Answer) (n
   pub writes : HasWritten old name bytes wrote new
   pub told_is : told ≡ unwritten_answer wrote
 
--- with what the client keeps; or memory ran out, and it stays
-abbrev pub SavesTo : Host → State → List ℕ → Option Answer → Host → Type 0
-SavesTo old c name told new = Writes old name (spelled (saved c.cache)) told new ⊎ ((told ≡ Some (answer_of outcome.Memory)) × (new ≡ old))
+-- with what the client keeps, and the items of these bytes behind it; or memory ran out, and it stays
+abbrev pub SavesOver : Host → State → (name bytes : List ℕ) → Option Answer → Host → Type 0
+SavesOver old c name bytes told new = Writes old name (spelled (saved c.cache (items bytes))) told new ⊎ ((told ≡ Some (answer_of outcome.Memory)) × (new ≡ old))
+
+-- of what the client keeps, what the cache file gave is left out
+given_is : given_file ≡ cached_file
+given_is = refl
+
+-- over what was read: over nothing where it can't be, which isn't said; where memory ran out it stays
+abbrev pub SavesRead : Host → State → (name : List ℕ) → Result (List ℕ) FilesError → Option Answer → Host → Type 0
+SavesRead old c name (Ok bytes) told new = SavesOver old c name bytes told new
+SavesRead old c name (Err errors.Memory) told new = (told ≡ Some (answer_of outcome.Memory)) × (new ≡ old)
+SavesRead old c name (Err e) told new = SavesOver old c name [] told new
+
+-- it is read once more first
+pub record SavesTo (old : Host) (c : State) (name : List ℕ) (told : Option Answer) (new : Host) : Type 0 where
+  pub read : Result (List ℕ) FilesError
+  pub between : Host
+  pub reads : HasRead old name read between
+  pub saves : SavesRead between c name read told new
 
 pub record Saves (m : Mount) (name : List ℕ) (told : Option Answer) (m' : Mount) : Type 0 where
   pub host : SavesTo m.host m.client name told m'.host

@@ -1,7 +1,7 @@
 //! The cache file of a mount, and how much the client keeps: `specs/Caching.antt` says what comes of it.
 
 ghost use Rattle.std.specs.Prelude.{◌≡◌};
-ghost use Rattle.lbfs_client.specs.Caching.{LoadsRead, Looks, SavesTo, WarmedBy, Writes, may_replace, unwritten_answer};
+ghost use Rattle.lbfs_client.specs.Caching.{LoadsRead, Looks, SavesOver, SavesRead, SavesTo, WarmedBy, Writes, may_replace, unwritten_answer};
 ghost use Rattle.lbfs_client.specs.Host.{HasRead, HasWritten};
 
 use crate::answer::Answer;
@@ -106,7 +106,43 @@ fn write<F: Files>(alloc: Global, files: &mut F, name: &str, bytes: &[u8]) -> Op
     unwritten_answer(wrote)
 }
 
-/// What the client keeps is written to the cache file; what is said of that.
+/// What the client keeps is written to the cache file, and behind it the items of these bytes, which stand in it;
+/// what is said of that.
+fn save_over<F: Files>(
+    alloc: Global,
+    files: &mut F,
+    client: &Client,
+    name: &str,
+    old: &[u8],
+) -> Option<Answer>
+    ensures { SavesOver (record { files = F.files files.old; faults = F.faults files.old }) client.now name.now old.now result (record { files = F.files files.new; faults = F.faults files.new }) }
+{
+    match cache_file::save(alloc, client.cache(), old) {
+        Ok(bytes) => write(alloc, files, name, bytes.as_slice()),
+        Err(_want) => Some(Answer::Ended(Outcome::Memory)),
+    }
+}
+
+/// So over what was read of it, which is nothing where it can't be; what is said of that. Where memory ran out it
+/// stays, since its items would be lost.
+fn save_read<F: Files>(
+    alloc: Global,
+    files: &mut F,
+    client: &Client,
+    name: &str,
+    read: Result<Bytes, FilesError>,
+) -> Option<Answer>
+    ensures { SavesRead (record { files = F.files files.old; faults = F.faults files.old }) client.now name.now read result (record { files = F.files files.new; faults = F.faults files.new }) }
+{
+    match read {
+        Ok(bytes) => save_over(alloc, files, client, name, bytes.as_slice()),
+        Err(FilesError::Memory) => Some(Answer::Ended(Outcome::Memory)),
+        Err(_) => save_over(alloc, files, client, name, &[]),
+    }
+}
+
+/// What the client keeps is written to the cache file, and behind it the items that stand in it now, so that it is
+/// read once more; what is said of that.
 pub(crate) fn save_kept<F: Files>(
     alloc: Global,
     files: &mut F,
@@ -115,8 +151,6 @@ pub(crate) fn save_kept<F: Files>(
 ) -> Option<Answer>
     ensures { SavesTo (record { files = F.files files.old; faults = F.faults files.old }) client.now name.now result (record { files = F.files files.new; faults = F.faults files.new }) }
 {
-    match cache_file::save(alloc, client.cache()) {
-        Ok(bytes) => write(alloc, files, name, bytes.as_slice()),
-        Err(_want) => Some(Answer::Ended(Outcome::Memory)),
-    }
+    let bytes = read(alloc, files, name);
+    save_read(alloc, files, client, name, bytes)
 }

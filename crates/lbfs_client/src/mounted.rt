@@ -254,8 +254,9 @@ impl<F: Files> Mounted<F> {
         (told, replaces)
     }
 
-    /// What the client keeps is written to the cache file of this name, which is as it was or new. What is
-    /// answered is to be said: that it couldn't be written, or memory ran out.
+    /// What the client keeps is written to the cache file of this name, and behind it the items that stand in it
+    /// now; it is as it was or new. What is answered is to be said: that it couldn't be written, or memory ran
+    /// out.
     #[tactic(auto, using(crate::proofs::Cachings::saved))]
     pub fn save(&mut self, alloc: Global, name: &str) -> Option<Answer>
         ensures { Saves self.old name.now result self.new }

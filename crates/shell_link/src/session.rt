@@ -2,7 +2,7 @@
 
 ghost use Rattle.std.specs.Prelude.{◌≡◌, ◌≤◌, Bool, true, false, None, IfOk, length};
 ghost use Rattle.limits.specs.declared.TheConstants.{FILE_MOST};
-ghost use Rattle.cache_file.specs.Items.{spelled};
+ghost use Rattle.cache_file.specs.Items.{items, spelled};
 ghost use Rattle.cache_file.specs.Saved.{saved};
 ghost use Rattle.client_state.specs.State.{State, start_with, local_bytes};
 ghost use Rattle.client_state.specs.Ending.{cut, joined};
@@ -447,7 +447,7 @@ where
 
     ghost warms = { λ s bytes done t. MayWarm s.client bytes done t.client × (t.is_fresh ≡ s.is_fresh) };
 
-    ghost saves = { λ s bytes. bytes ≡ spelled (saved s.client.cache) };
+    ghost saves = { λ s old bytes. bytes ≡ spelled (saved s.client.cache (items old)) };
 
     ghost farewells = { λ s t. Leaves s.client t.client × (t.is_fresh ≡ s.is_fresh) };
 
@@ -478,8 +478,8 @@ where
         warm(alloc, &mut self.client, bytes)
     }
 
-    fn kept(&self, alloc: Global) -> Result<Bytes, AllocError> {
-        cache_file::save(alloc, self.client.cache())
+    fn kept(&self, alloc: Global, old: &[u8]) -> Result<Bytes, AllocError> {
+        cache_file::save(alloc, self.client.cache(), old)
     }
 
     fn farewell(&mut self, alloc: Global) {

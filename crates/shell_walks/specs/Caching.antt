@@ -1,5 +1,5 @@
 -- A shell's cache file, over what its client makes of one (`warms`), what it has for one (`saves`), and the calls of the host's files.
-use Rattle.std.specs.Prelude.{◌≡◌, ℕ, List, Option, Some, None, Bool, true, false, Result, Ok, Err}
+use Rattle.std.specs.Prelude.{◌≡◌, ℕ, List, [], Option, Some, None, Bool, true, false, Result, Ok, Err}
 use Rattle.shell_walks.specs.declared.folder.LocalFault.{LocalFault}
 use Rattle.shell_walks.specs.declared.folder.LocalFault.TheVariants as fault
 
@@ -30,7 +30,23 @@ pub record Writes {F : Type 0} (writes : F → List ℕ → List ℕ → Result 
   pub written : writes host name bytes wrote host'
   pub is_told : wrong ≡ unwritten wrote
 
--- with what the client has for it; or memory runs out, and nothing is written
-pub data Saves {R F : Type 0} (saves : R → List ℕ → Type 0) (writes : F → List ℕ → List ℕ → Result Unit LocalFault → F → Type 0) (r : R) (host : F) (name : List ℕ) (wrong : Option LocalFault) (host' : F) : Type 0 where
-  saved : (bytes : List ℕ) → saves r bytes → Writes writes host name bytes wrong host' → Saves saves writes r host name wrong host'
-  not_saved : wrong ≡ Some fault.Memory → host' ≡ host → Saves saves writes r host name wrong host'
+-- with what the client has for one that has these bytes; or memory runs out, and nothing is written
+pub data SavesOver {R F : Type 0} (saves : R → (old bytes : List ℕ) → Type 0) (writes : F → List ℕ → List ℕ → Result Unit LocalFault → F → Type 0) (r : R) (host : F) (name old : List ℕ) (wrong : Option LocalFault) (host' : F) : Type 0 where
+  saved : (bytes : List ℕ) → saves r old bytes → Writes writes host name bytes wrong host' → SavesOver saves writes r host name old wrong host'
+  not_saved : wrong ≡ Some fault.Memory → host' ≡ host → SavesOver saves writes r host name old wrong host'
+
+-- where it can't be read, which isn't told: over nothing; where memory ran out it stays
+abbrev pub SavesUnread : {R F : Type 0} → (saves : R → (old bytes : List ℕ) → Type 0) → (writes : F → List ℕ → List ℕ → Result Unit LocalFault → F → Type 0) → R → F → (name : List ℕ) → LocalFault → Option LocalFault → F → Type 0
+SavesUnread saves writes r host name fault.Memory wrong host' = (wrong ≡ Some fault.Memory) × (host' ≡ host)
+SavesUnread saves writes r host name f wrong host' = SavesOver saves writes r host name [] wrong host'
+
+abbrev pub SavesRead : {R F : Type 0} → (saves : R → (old bytes : List ℕ) → Type 0) → (writes : F → List ℕ → List ℕ → Result Unit LocalFault → F → Type 0) → R → F → (name : List ℕ) → Result (List ℕ) LocalFault → Option LocalFault → F → Type 0
+SavesRead saves writes r host name (Ok bytes) wrong host' = SavesOver saves writes r host name bytes wrong host'
+SavesRead saves writes r host name (Err f) wrong host' = SavesUnread saves writes r host name f wrong host'
+
+-- it is read once more first
+pub record Saves {R F : Type 0} (saves : R → (old bytes : List ℕ) → Type 0) (reads : F → List ℕ → Result (List ℕ) LocalFault → F → Type 0) (writes : F → List ℕ → List ℕ → Result Unit LocalFault → F → Type 0) (r : R) (host : F) (name : List ℕ) (wrong : Option LocalFault) (host' : F) : Type 0 where
+  pub read : Result (List ℕ) LocalFault
+  pub between : F
+  pub reading : reads host name read between
+  pub over : SavesRead saves writes r between name read wrong host'

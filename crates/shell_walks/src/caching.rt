@@ -2,7 +2,7 @@
 //! it (`specs/Caching.antt`).
 
 ghost use Rattle.std.specs.Prelude.{◌≡◌};
-ghost use Rattle.shell_walks.specs.Caching.{LoadsRead, Loads, Saves, Writes, unwritten, warmed};
+ghost use Rattle.shell_walks.specs.Caching.{LoadsRead, Loads, Saves, SavesOver, SavesRead, SavesUnread, Writes, unwritten, warmed};
 
 use crate::folder::{Folder, LocalFault};
 use crate::remote::Remote;
@@ -61,17 +61,65 @@ fn write<F: Folder>(alloc: Global, folder: &mut F, name: &str, bytes: &[u8]) -> 
     unwritten(wrote)
 }
 
-/// What the client keeps is written to the cache file of this name. That it couldn't be is answered.
+/// What the client keeps is written to the cache file of this name, which has these bytes.
+fn save_over<R: Remote, F: Folder>(
+    alloc: Global,
+    remote: &R,
+    folder: &mut F,
+    name: &str,
+    old: &[u8],
+) -> Option<LocalFault>
+    ensures { SavesOver R.saves F.writes remote.now folder.old name.now old.now result folder.new }
+{
+    match remote.kept(alloc, old) {
+        Ok(bytes) => write(alloc, folder, name, bytes.as_slice()),
+        Err(_want) => Some(LocalFault::Memory),
+    }
+}
+
+/// So where it can't be read, which has nothing then. Where memory ran out it stays, since what stands in it would be
+/// lost.
+fn save_unread<R: Remote, F: Folder>(
+    alloc: Global,
+    remote: &R,
+    folder: &mut F,
+    name: &str,
+    fault: LocalFault,
+) -> Option<LocalFault>
+    ensures { SavesUnread R.saves F.writes remote.now folder.old name.now fault result folder.new }
+{
+    match fault {
+        LocalFault::Memory => Some(LocalFault::Memory),
+        _ => save_over(alloc, remote, folder, name, &[]),
+    }
+}
+
+/// So over what was read of it.
+fn save_read<R: Remote, F: Folder>(
+    alloc: Global,
+    remote: &R,
+    folder: &mut F,
+    name: &str,
+    read: Result<Bytes, LocalFault>,
+) -> Option<LocalFault>
+    ensures { SavesRead R.saves F.writes remote.now folder.old name.now read result folder.new }
+{
+    match read {
+        Ok(bytes) => save_over(alloc, remote, folder, name, bytes.as_slice()),
+        Err(fault) => save_unread(alloc, remote, folder, name, fault),
+    }
+}
+
+/// What the client keeps is written to the cache file of this name, and what stands in it now goes with it. That it
+/// couldn't be written is answered.
 pub fn save<R: Remote, F: Folder>(
     alloc: Global,
     remote: &R,
     folder: &mut F,
     name: &str,
 ) -> Option<LocalFault>
-    ensures { Saves R.saves F.writes remote.now folder.old name.now result folder.new }
+    ensures { Saves R.saves F.reads F.writes remote.now folder.old name.now result folder.new }
 {
-    match remote.kept(alloc) {
-        Ok(bytes) => write(alloc, folder, name, bytes.as_slice()),
-        Err(_want) => Some(LocalFault::Memory),
-    }
+    let read = folder.read(alloc, name);
+    save_read(alloc, remote, folder, name, read)
 }

@@ -116,8 +116,8 @@ pub trait Remote {
     /// What the taking of a cache file's bytes may leave, by whether it was done.
     ghost warms: { Self → List ℕ → Bool → Self → Type 0 };
 
-    /// Which bytes a cache file may be given.
-    ghost saves: { Self → List ℕ → Type 0 };
+    /// Which bytes a cache file may be given in place of those that it has.
+    ghost saves: { Self → List ℕ → List ℕ → Type 0 };
 
     /// What the giving up of its leases may leave.
     ghost farewells: { Self → Self → Type 0 };
@@ -141,9 +141,10 @@ pub trait Remote {
     fn warm(&mut self, alloc: Global, bytes: &[u8]) -> bool
         ensures { warms self.old bytes.now result self.new };
 
-    /// The bytes of a cache file with what the client keeps. The one error is running out of memory.
-    fn kept(&self, alloc: Global) -> Result<Bytes, AllocError>
-        ensures { IfOk result (λ bytes. saves self.now bytes) };
+    /// The bytes of a cache file with what the client keeps, in place of these, whose items go behind. The one error
+    /// is running out of memory.
+    fn kept(&self, alloc: Global, old: &[u8]) -> Result<Bytes, AllocError>
+        ensures { IfOk result (λ bytes. saves self.now old.now bytes) };
 
     /// Gives up all leases that the server may think it has, since nobody answers a RECALL until the next command.
     /// Where it can't be told so, nothing comes of it.
