@@ -19,7 +19,7 @@ pub record IsSaved (drift keep : ℕ) (name : List ℕ) (host : Host) : Type 0 w
   pub listed : ℕ
   pub client : Mount
   pub course : Course drift keep listed client
-  -- what is written is of no more than that, or of what is in use
+  -- of what is kept then no more than that is written, or else what is in use; behind it the items that stood there
   pub bound : IsCache client.client.cache → IsBounded keep (within keep client).client
   pub told : Option Answer
   pub new : Mount
