@@ -1,6 +1,6 @@
 //! The files and folders of the host, as a shell works with them. They tell nothing of what is in them.
 
-ghost use Rattle.std.specs.Prelude.{◌≤◌, length, IfOk};
+ghost use Rattle.std.specs.Prelude.{◌≡◌, ◌≤◌, length, IfOk};
 ghost use Rattle.limits.specs.declared.TheConstants.{FILE_MOST};
 
 use crate::left_over::clear_name;
@@ -33,7 +33,9 @@ pub struct HostFolder<'a, R> {
 impl<'a, R> HostFolder<'a, R> {
     /// The host's files. The mark is the process's number, and the number another one for each thread: the file
     /// that is being written is named after them, or after the next number that is free in its folder.
-    pub fn new(rt: R, mark: u32, number: u32, cache: Option<&'a str>) -> HostFolder<'a, R> {
+    pub fn new(rt: R, mark: u32, number: u32, cache: Option<&'a str>) -> HostFolder<'a, R>
+        ensures { result ≡ record { rt = rt; mark = mark; number = number; cache = cache } }
+    {
         HostFolder {
             rt,
             mark,
@@ -172,7 +174,9 @@ pub struct HostFolders<'a, R> {
 
 impl<'a, R> HostFolders<'a, R> {
     /// The host's files. The mark is the process's number. A cache file that is new is its owner's alone.
-    pub fn new(rt: R, mark: u32, cache: Option<&'a str>) -> HostFolders<'a, R> {
+    pub fn new(rt: R, mark: u32, cache: Option<&'a str>) -> HostFolders<'a, R>
+        ensures { result ≡ record { rt = rt; mark = mark; cache = cache } }
+    {
         HostFolders { rt, mark, cache }
     }
 }

@@ -2,7 +2,7 @@
 //! says so. No clause speaks of what is behind the lock, since another thread's turn may stand before and
 //! behind each; of what one turn makes of it `Jobs::count_in` does.
 
-ghost use Rattle.std.specs.Prelude.{◌≡◌, ◌-◌, ◌++◌, ◌||◌, [], IfOk, true, false, length, reverse, if◌then◌else◌};
+ghost use Rattle.std.specs.Prelude.{◌≡◌, ◌≤◌, ◌-◌, ◌++◌, ◌||◌, [], IfOk, None, Some, true, false, length, reverse, if◌then◌else◌};
 ghost use Rattle.shell_telling.specs.Tally.{capped_sum, with_visit};
 ghost use Rattle.shell_telling.specs.Telling.{left_out_text};
 
@@ -144,6 +144,7 @@ impl Jobs {
         ensures spent { self.new.is_starved ≡ true → self.new.tasks.items ≡ [] }
         ensures all { self.new.is_starved ≡ false → capped_sum self.new.left_out (length self.new.tasks.items)
             ≡ capped_sum (capped_sum (capped_sum self.old.left_out visited.left) (length self.old.tasks.items)) (length visited.more) }
+        ensures least { capped_sum self.old.left_out visited.left ≤ self.new.left_out }
         ensures comes { self.new.is_off ≡ false → self.new.is_starved ≡ false → self.new.tasks.items ≡ self.old.tasks.items ++ reverse visited.more }
         ensures starved { self.old.is_starved ≡ true → self.new.is_starved ≡ true }
         ensures busy { self.new.busy ≡ self.old.busy - 1 }
@@ -175,6 +176,17 @@ impl Jobs {
         self.busy = self.busy.saturating_sub(1);
         self.is_starved = true;
         self.leave_out();
+    }
+
+    /// What the tasks came to; none where memory ran out.
+    fn tally_of(self) -> Option<Tally>
+        ensures { result ≡ (if self.is_starved then None else Some self.tally) }
+    {
+        if self.is_starved {
+            None
+        } else {
+            Some(self.tally)
+        }
     }
 
     /// A task was done, which is said.
@@ -336,11 +348,6 @@ impl Pool {
     pub(crate) fn into_tally(self) -> Option<Tally> {
         let Pool { jobs, news } = self;
         drop(news);
-        let Jobs {
-            tally,
-            is_starved,
-            ..
-        } = jobs.into_inner();
-        if is_starved { None } else { Some(tally) }
+        jobs.into_inner().tally_of()
     }
 }
