@@ -289,10 +289,10 @@ fn asks_help(word: &str) -> bool {
     word == "--help" || word == "-h"
 }
 
-/// Whether two words ask for help of the first, or the first for help of the second.
-fn asks_help_of(word: &str, other: &str, command: &str) -> bool {
-    (word == command && (asks_help(other) || other == "help"))
-        || (word == "help" && other == command)
+/// Whether two words ask for the help of a shell: `shell --help`, `shell help`, `help shell`.
+fn asks_help_of_a_shell(word: &str, other: &str) -> bool {
+    (word == "shell" && (asks_help(other) || other == "help"))
+        || (word == "help" && other == "shell")
 }
 
 /// Whether words are a command of a shell, and behind it `--help` alone.
@@ -304,7 +304,7 @@ fn asks_one(command: &str, word: &str, option: &str) -> bool {
 /// `help shell put`, `shell put --help`.
 fn help_words(words: &[String]) -> Option<&[String]> {
     match words {
-        [command, word, more @ ..] if asks_help_of(command.as_str(), word.as_str(), "shell") => {
+        [command, word, more @ ..] if asks_help_of_a_shell(command.as_str(), word.as_str()) => {
             Some(more)
         }
         [command, word, option] if asks_one(command.as_str(), word.as_str(), option.as_str()) => {
@@ -314,10 +314,15 @@ fn help_words(words: &[String]) -> Option<&[String]> {
     }
 }
 
+/// Whether two words ask for the help of `share`: `share --help`, `help share`. A folder may be named `help`.
+fn asks_help_to_share(word: &str, other: &str) -> bool {
+    (word == "share" && asks_help(other)) || (word == "help" && other == "share")
+}
+
 /// Whether the words ask what there is to type to share a folder.
 fn asks_share(words: &[String]) -> bool {
     match words {
-        [word, other] => asks_help_of(word.as_str(), other.as_str(), "share"),
+        [word, other] => asks_help_to_share(word.as_str(), other.as_str()),
         _ => false,
     }
 }
