@@ -34,7 +34,7 @@ impl<'a, R> HostFolder<'a, R> {
     /// The host's files. The mark is the process's number, and the number another one for each thread: the file
     /// that is being written is named after them, or after the next number that is free in its folder.
     pub fn new(rt: R, mark: u32, number: u32, cache: Option<&'a str>) -> HostFolder<'a, R>
-        ensures { result ≡ record { rt = rt; mark = mark; number = number; cache = cache } }
+        ensures { result ≡ record { rt = rt; mark = mark; number = number; cache = cache.entry } }
     {
         HostFolder {
             rt,
@@ -175,7 +175,7 @@ pub struct HostFolders<'a, R> {
 impl<'a, R> HostFolders<'a, R> {
     /// The host's files. The mark is the process's number. A cache file that is new is its owner's alone.
     pub fn new(rt: R, mark: u32, cache: Option<&'a str>) -> HostFolders<'a, R>
-        ensures { result ≡ record { rt = rt; mark = mark; cache = cache } }
+        ensures { result ≡ record { rt = rt; mark = mark; cache = cache.entry } }
     {
         HostFolders { rt, mark, cache }
     }
