@@ -1,12 +1,14 @@
 -- What a line comes to, by the cases of its command.
-use Rattle.std.proofs.Common.{◌≡◌, refl, sym, subst, ap, ℕ, List}
+use Rattle.std.proofs.Common.{◌≡◌, refl, sym, subst, ap, ℕ, List, Bool, Option}
 use Rattle.command_text.specs.declared.command.Command.{Command}
 use Rattle.shell_words.specs.declared.command.Line.{Line}
 use Rattle.shell_words.specs.declared.command.Verb.{Verb}
 use Rattle.shell_words.specs.declared.command.Verb.TheVariants as verb
+use Rattle.shell_walks.specs.declared.folder.Kind.{Kind}
 use Rattle.shell_walks.specs.declared.remote.Answer.{Answer}
 use Rattle.shell_walks.specs.declared.told.Told.{Told}
 use Rattle.shell_commands.specs.Lines.{DoesPath, MovesTo, MovesTo.mistaken_so, Names, operand_of, Runs, RunsNamed, RunsNamed.at_mistake}
+use Rattle.shell_commands.specs.Here.{has_word, LcdIf}
 use Rattle.shell_commands.specs.declared.shell.Named.{Named}
 use Rattle.shell_commands.specs.declared.shell.Named.TheVariants as named
 use Rattle.shell_commands.specs.declared.shell.Went.{Went}
@@ -21,15 +23,17 @@ named_as d dir w word n m e1 e2 e3 k =
 pub mistaken_moves : {R : Type 0} (asks : R → Command → Answer → R → Type 0) (s : R) (dir from : List (List ℕ)) (word : List ℕ) (told : Told) → Names dir word (named.Mistaken told) → MovesTo asks s dir from word told s
 mistaken_moves asks s dir from word told k = mistaken_so k.0 k.1 k.2 refl
 
-pub mistaken_line : {R : Type 0} (asks : R → Command → Answer → R → Type 0) (content : R → ℕ → List ℕ) (line : Line) (dir : List (List ℕ)) (s : R) (told : Told) → Names dir (operand_of line 0) (named.Mistaken told) → RunsNamed asks content line dir s (went.Told told) s dir
-mistaken_line asks content line dir s told k = at_mistake k.0 k.1 (ap (λ (t : Told). went.Told t) k.2) refl refl
+pub mistaken_line : {R F : Type 0} (asks : R → Command → Answer → R → Type 0) (content : R → ℕ → List ℕ) (finds : F → Bool → List ℕ → Kind → F → Type 0) (clears : F → List ℕ → F → Type 0) (line : Line) (folder : List ℕ) (dir : List (List ℕ)) (s : R) (h : F) (told : Told) → Names dir (operand_of line 0) (named.Mistaken told) → RunsNamed asks content finds clears line folder dir s h (went.Told told) s h dir
+mistaken_line asks content finds clears line folder dir s h told k = at_mistake k.0 k.1 (ap (λ (t : Told). went.Told t) k.2) refl refl refl
 
-pub mv_so : {R : Type 0} (asks : R → Command → Answer → R → Type 0) (content : R → ℕ → List ℕ) (v : Verb) (line : Line) (d dir p path : List (List ℕ)) (word : List ℕ) (old new : R) (told : Told) → v ≡ verb.Mv → d ≡ dir → p ≡ path → word ≡ operand_of line 1 → MovesTo asks old d p word told new → DoesPath asks content v line dir path old (went.Told told) new dir
-mv_so asks content v line d dir p path word old new told is e1 e2 e3 m =
+pub mv_so : {R F : Type 0} (asks : R → Command → Answer → R → Type 0) (content : R → ℕ → List ℕ) (finds : F → Bool → List ℕ → Kind → F → Type 0) (clears : F → List ℕ → F → Type 0) (v : Verb) (line : Line) (folder : List ℕ) (d dir p path : List (List ℕ)) (word : List ℕ) (old new : R) (h : F) (told : Told) → v ≡ verb.Mv → d ≡ dir → p ≡ path → word ≡ operand_of line 1 → MovesTo asks old d p word told new → DoesPath asks content finds clears v line folder dir path old h (went.Told told) new h dir
+mv_so asks content finds clears v line folder d dir p path word old new h told is e1 e2 e3 m =
     let a : MovesTo asks old dir p word told new = subst (λ (x : List (List ℕ)). MovesTo asks old x p word told new) e1 m in
     let b : MovesTo asks old dir path word told new = subst (λ (x : List (List ℕ)). MovesTo asks old dir x word told new) e2 a in
     let c : MovesTo asks old dir path (operand_of line 1) told new = subst (λ (x : List ℕ). MovesTo asks old dir path x told new) e3 b in
-    subst (λ (x : Verb). DoesPath asks content x line dir path old (went.Told told) new dir) (sym is) (refl, (told, refl, c))
+    subst (λ (x : Verb). DoesPath asks content finds clears x line folder dir path old h (went.Told told) new h dir) (sym is) (refl, refl, (told, refl, c))
 
-pub lcd_so : {R : Type 0} (asks : R → Command → Answer → R → Type 0) (content : R → ℕ → List ℕ) (v : Verb) (line : Line) (dir dir' : List (List ℕ)) (old new : R) (w : Went) → v ≡ verb.Lcd → new ≡ old → dir' ≡ dir → Runs asks content v line dir old w new dir'
-lcd_so asks content v line dir dir' old new w is e1 e2 = subst (λ (x : Verb). Runs asks content x line dir old w new dir') (sym is) (e1, e2)
+pub lcd_so : {R F : Type 0} (asks : R → Command → Answer → R → Type 0) (content : R → ℕ → List ℕ) (finds : F → Bool → List ℕ → Kind → F → Type 0) (clears : F → List ℕ → F → Type 0) (v : Verb) (line : Line) (here : Option (List ℕ)) (folder word : List ℕ) (dir : List (List ℕ)) (s : R) (h h' : F) (told : Told) (folder' : List ℕ) → v ≡ verb.Lcd → word ≡ operand_of line 0 → LcdIf finds h (has_word word) here word folder told h' folder' → Runs asks content finds clears v line here folder dir s h (went.Told told) s h' folder' dir
+lcd_so asks content finds clears v line here folder word dir s h h' told folder' is e k =
+    let a : LcdIf finds h (has_word (operand_of line 0)) here (operand_of line 0) folder told h' folder' = subst (λ (x : List ℕ). LcdIf finds h (has_word x) here x folder told h' folder') e k in
+    subst (λ (x : Verb). Runs asks content finds clears x line here folder dir s h (went.Told told) s h' folder' dir) (sym is) (refl, refl, (told, refl, a))

@@ -1,4 +1,5 @@
 pub mod Getting
+pub mod Here
 pub mod Lines
 pub mod Putting
 pub mod Rows

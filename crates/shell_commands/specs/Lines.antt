@@ -1,33 +1,34 @@
 -- What a line comes to: which path of the server a word of it names, and what is done with that.
-use Rattle.std.specs.Prelude.{◌≡◌, ℕ, ◌==◌, List, [], ◌∷◌, ◌++◌, length, nat_lt, slice_get, Option, Some, None, Bool, true, false, Ok, Err, codes}
+use Rattle.std.specs.Prelude.{◌≡◌, ℕ, ◌-◌, ◌==◌, ◌&&◌, ◌||◌, List, [], ◌∷◌, ◌++◌, length, drop, not, slice_get, Option, Some, None, Bool, true, false, Ok, Err, bytes_eq, codes}
 use Rattle.command_text.specs.declared.command.Command.{Command}
 use Rattle.shell_words.specs.Local.{is_component}
 use Rattle.shell_words.specs.Paths.{above, last_of, path_of}
-use Rattle.shell_words.specs.Quoting.{quoted}
 use Rattle.shell_words.specs.declared.command.Line.{Line}
 use Rattle.shell_words.specs.declared.command.Verb.{Verb}
 use Rattle.shell_words.specs.declared.command.Verb.TheVariants as verb
 use Rattle.shell_words.specs.declared.mistake.Mistake.{Mistake}
 use Rattle.shell_walks.specs.Asking.{command_on, AsksOn}
-use Rattle.shell_walks.specs.Telling.{fine, mistake_text, note_line, notes, path_text, refused_told, why_of}
+use Rattle.shell_walks.specs.Telling.{fault_text, fine, mistake_text, path_text}
 use Rattle.shell_walks.specs.declared.asking.Deed.TheVariants as deed
+use Rattle.shell_walks.specs.declared.folder.Kind.{Kind}
+use Rattle.shell_walks.specs.declared.folder.LocalFault.TheVariants as fault
 use Rattle.shell_walks.specs.declared.remote.Answer.{Answer}
 use Rattle.shell_walks.specs.declared.tasks.Storing.{Storing}
 use Rattle.shell_walks.specs.declared.tasks.Task.{Task}
 use Rattle.shell_walks.specs.declared.tasks.Task.TheVariants as task
 use Rattle.shell_walks.specs.declared.told.Told.{Told}
 use Rattle.path_commands.specs.Doing.{directory_told, is_dir_told, is_known, MakesWay, Moves, OnPath}
+use Rattle.shell_commands.specs.Here.{GotTo, has_word, is_name_here, LcdIf, name_below, name_got, of_word, Sources}
+use Rattle.shell_commands.specs.declared.here.NamedLocal.{NamedLocal}
+use Rattle.shell_commands.specs.declared.here.NamedLocal.TheVariants as namedlocal
+use Rattle.shell_commands.specs.declared.here.Source.{Source}
+use Rattle.shell_commands.specs.declared.here.Source.TheVariants as source
 use Rattle.shell_commands.specs.declared.shell.Named.{Named}
 use Rattle.shell_commands.specs.declared.shell.Named.TheVariants as named
-use Rattle.shell_commands.specs.declared.shell.NamedLocal.{NamedLocal}
-use Rattle.shell_commands.specs.declared.shell.NamedLocal.TheVariants as namedlocal
 use Rattle.shell_commands.specs.declared.shell.Went.{Went}
 use Rattle.shell_commands.specs.declared.shell.Went.TheVariants as went
 
 -- ---- words
-
-abbrev pub of_word : (word words : List ℕ) → Told
-of_word word words = notes (note_line (quoted word) words)
 
 abbrev pub mistaken_as : (word : List ℕ) → Mistake → Told
 mistaken_as word m = of_word word (mistake_text m)
@@ -63,17 +64,27 @@ pub data MovesTo {R : Type 0} (asks : R → Command → Answer → R → Type 0)
   named_so : (to : List (List ℕ)) → path_of dir word ≡ Ok to → Moves asks old from to told new → MovesTo asks old dir from word told new
   mistaken_so : (m : Mistake) → path_of dir word ≡ Err m → told ≡ mistaken_as word m → new ≡ old → MovesTo asks old dir from word told new
 
--- ---- what is a task
+-- ---- get: a task, and the folder that it writes to is cleared
 
-abbrev pub IsGetTask : (path : List (List ℕ)) → (deep : Bool) → Task → Type 0
-IsGetTask path deep (task.Get p local d id) = (p ≡ path) × (d ≡ deep) × (id ≡ None)
-IsGetTask path deep t = ⊥
+abbrev pub GetsInto : {F : Type 0} → (clears : F → List ℕ → F → Type 0) → F → (path : List (List ℕ)) → (deep : Bool) → NamedLocal → Went → F → Type 0
+GetsInto clears old path deep (namedlocal.Path local) w new = ((folder : List ℕ) × clears old folder new) × (w ≡ went.Works (task.Get path local deep None))
+GetsInto clears old path deep (namedlocal.Mistaken told) w new = (new ≡ old) × (w ≡ went.Told told)
 
--- a get of that path, or what is said in its place
-abbrev pub IsGet : (path : List (List ℕ)) → (deep : Bool) → Went → Type 0
-IsGet path deep (went.Works t) = IsGetTask path deep t
-IsGet path deep (went.Told told) = Unit {0}
-IsGet path deep went.Bye = ⊥
+pub record Gets {F : Type 0} (finds : F → Bool → List ℕ → Kind → F → Type 0) (clears : F → List ℕ → F → Type 0) (old : F) (folder word name : List ℕ) (path : List (List ℕ)) (deep : Bool) (w : Went) (new : F) : Type 0 where
+  pub to : NamedLocal
+  pub between : F
+  pub targets : GotTo finds old folder word name to between
+  pub goes_on : GetsInto clears between path deep to w new
+
+-- what ends in /. (its last part is no name) isn't put into a folder under its own name
+abbrev pub name_into : Line → (path : List (List ℕ)) → List ℕ
+name_into line path = name_below (not (has_word (operand_of line 1)) || is_component (last_of (operand_of line 0))) (name_got path)
+
+abbrev pub GetsIf : {F : Type 0} → (finds : F → Bool → List ℕ → Kind → F → Type 0) → (clears : F → List ℕ → F → Type 0) → F → (is_name : Bool) → (folder : List ℕ) → Line → (path : List (List ℕ)) → Went → F → Type 0
+GetsIf finds clears old true folder line path w new = Gets finds clears old folder (operand_of line 1) (name_into line path) path line.has_option w new
+GetsIf finds clears old false folder line path w new = (new ≡ old) × (w ≡ went.Told (of_word (name_got path) (fault_text fault.BadName)))
+
+-- ---- how put and sync store
 
 abbrev pub put_storing : (deep : Bool) → Storing
 put_storing deep = record { deep = deep; changed_only = false; deletes = false; fresh = false; inner = false; id = None }
@@ -83,38 +94,42 @@ sync_storing deletes = record { deep = true; changed_only = true; deletes = dele
 
 -- ---- which path of the server a put stores to
 
+-- whether a directory is wanted at the path: a slash ends the word, and LOCAL is a file
+abbrev pub wants_dir : (is_folder : Bool) → (word : List ℕ) → Bool
+wants_dir is_folder word = not is_folder && bytes_eq (drop (length word - 1) word) (codes "/")
+
 -- into the directory that has the path, and else at the path
 abbrev pub target_if : (is_dir : Bool) → (path : List (List ℕ)) → (last : List ℕ) → List (List ℕ)
 target_if true path last = path ++ last ∷ []
 target_if false path last = path
 
--- nowhere, where the look failed: what stands there isn't known then
-abbrev pub target_as : (is_known : Bool) → (path : List (List ℕ)) → (last : List ℕ) → Answer → Named
-target_as true path last looked = named.Path (target_if (is_dir_told looked) path last)
-target_as false path last looked = named.Mistaken (refused_told path (why_of looked))
+-- nowhere, where the look failed, since what stands there isn't known then, nor where no directory does that is wanted
+abbrev pub is_fit : (wants : Bool) → Answer → Bool
+is_fit wants looked = is_known looked && (not wants || is_dir_told looked)
 
-pub record LooksTarget {R : Type 0} (asks : R → Command → Answer → R → Type 0) (old : R) (path : List (List ℕ)) (last : List ℕ) (n : Named) (new : R) : Type 0 where
+abbrev pub target_as : (is_fit : Bool) → (path : List (List ℕ)) → (last : List ℕ) → Answer → Named
+target_as true path last looked = named.Path (target_if (is_dir_told looked) path last)
+target_as false path last looked = named.Mistaken (directory_told path looked)
+
+pub record LooksTarget {R : Type 0} (asks : R → Command → Answer → R → Type 0) (old : R) (wants : Bool) (path : List (List ℕ)) (last : List ℕ) (n : Named) (new : R) : Type 0 where
   pub looked : Answer
   pub looks : AsksOn asks old (command_on deed.Look path) looked new
-  pub is : n ≡ target_as (is_known looked) path last looked
-
-abbrev pub has_word : List ℕ → Bool
-has_word word = nat_lt 0 (length word)
+  pub is : n ≡ target_as (is_fit wants looked) path last looked
 
 -- where LOCAL's last part is no name (`.`, `..`) at the path itself, and without a word where the shell stands
-abbrev pub TargetsIf : {R : Type 0} → (asks : R → Command → Answer → R → Type 0) → R → (is_name has_word : Bool) → (path : List (List ℕ)) → (last : List ℕ) → Named → R → Type 0
-TargetsIf asks old false has path last n new = (new ≡ old) × (n ≡ named.Path path)
-TargetsIf asks old true false path last n new = (new ≡ old) × (n ≡ named.Path (path ++ last ∷ []))
-TargetsIf asks old true true path last n new = LooksTarget asks old path last n new
+abbrev pub TargetsIf : {R : Type 0} → (asks : R → Command → Answer → R → Type 0) → R → (is_name has_word wants : Bool) → (path : List (List ℕ)) → (last : List ℕ) → Named → R → Type 0
+TargetsIf asks old false has wants path last n new = (new ≡ old) × (n ≡ named.Path path)
+TargetsIf asks old true false wants path last n new = (new ≡ old) × (n ≡ named.Path (path ++ last ∷ []))
+TargetsIf asks old true true wants path last n new = LooksTarget asks old wants path last n new
 
-abbrev pub TargetsOn : {R : Type 0} → (asks : R → Command → Answer → R → Type 0) → R → (word last : List ℕ) → (at n : Named) → R → Type 0
-TargetsOn asks old word last (named.Path path) n new = TargetsIf asks old (is_component last) (has_word word) path last n new
-TargetsOn asks old word last (named.Mistaken told) n new = (new ≡ old) × (n ≡ named.Mistaken told)
+abbrev pub TargetsOn : {R : Type 0} → (asks : R → Command → Answer → R → Type 0) → R → (is_folder : Bool) → (word last : List ℕ) → (at n : Named) → R → Type 0
+TargetsOn asks old is_folder word last (named.Path path) n new = TargetsIf asks old (is_component last) (has_word word) (wants_dir is_folder word) path last n new
+TargetsOn asks old is_folder word last (named.Mistaken told) n new = (new ≡ old) × (n ≡ named.Mistaken told)
 
-pub record Targets {R : Type 0} (asks : R → Command → Answer → R → Type 0) (old : R) (dir : List (List ℕ)) (word last : List ℕ) (n : Named) (new : R) : Type 0 where
+pub record Targets {R : Type 0} (asks : R → Command → Answer → R → Type 0) (old : R) (dir : List (List ℕ)) (is_folder : Bool) (word last : List ℕ) (n : Named) (new : R) : Type 0 where
   pub at : Named
   pub names : Names dir word at
-  pub goes_on : TargetsOn asks old word last at n new
+  pub goes_on : TargetsOn asks old is_folder word last at n new
 
 -- ---- put and sync: a task, where the directories above its path are there then
 
@@ -134,33 +149,35 @@ abbrev pub Stores : {R : Type 0} → (asks : R → Command → Answer → R → 
 Stores asks old local (named.Path path) s w new = StoresTo asks old local path s w new
 Stores asks old local (named.Mistaken told) s w new = (new ≡ old) × (w ≡ went.Told told)
 
-pub record PutsTo {R : Type 0} (asks : R → Command → Answer → R → Type 0) (old : R) (dir : List (List ℕ)) (line : Line) (local : List ℕ) (w : Went) (new : R) : Type 0 where
+pub record PutsTo {R : Type 0} (asks : R → Command → Answer → R → Type 0) (old : R) (dir : List (List ℕ)) (line : Line) (local : List ℕ) (is_folder : Bool) (w : Went) (new : R) : Type 0 where
   pub target : Named
   pub between : R
-  pub targets : Targets asks old dir (operand_of line 1) (last_of (operand_of line 0)) target between
+  pub targets : Targets asks old dir is_folder (operand_of line 1) (last_of (operand_of line 0)) target between
   pub goes_on : Stores asks between local target (put_storing line.has_option) w new
 
--- a sync stores to the path itself
-pub record SyncsTo {R : Type 0} (asks : R → Command → Answer → R → Type 0) (old : R) (dir : List (List ℕ)) (line : Line) (local : List ℕ) (w : Went) (new : R) : Type 0 where
+-- a sync stores to the path itself; LOCAL itself, where it is a file, takes no directory's place
+pub record SyncsTo {R : Type 0} (asks : R → Command → Answer → R → Type 0) (old : R) (dir : List (List ℕ)) (line : Line) (local : List ℕ) (is_folder : Bool) (w : Went) (new : R) : Type 0 where
   pub target : Named
   pub names : Names dir (operand_of line 1) target
-  pub goes_on : Stores asks old local target (sync_storing line.has_option) w new
+  pub goes_on : Stores asks old local target (sync_storing (line.has_option && is_folder)) w new
 
 -- by what LOCAL is here: where it isn't, nothing is asked
-abbrev pub PutsFrom : {R : Type 0} → (asks : R → Command → Answer → R → Type 0) → R → (dir : List (List ℕ)) → Line → NamedLocal → Went → R → Type 0
-PutsFrom asks old dir line (namedlocal.Path local) w new = PutsTo asks old dir line local w new
-PutsFrom asks old dir line (namedlocal.Mistaken told) w new = (new ≡ old) × (w ≡ went.Told told)
+abbrev pub PutsFrom : {R : Type 0} → (asks : R → Command → Answer → R → Type 0) → R → (dir : List (List ℕ)) → Line → Source → Went → R → Type 0
+PutsFrom asks old dir line (source.Here local is_folder) w new = PutsTo asks old dir line local is_folder w new
+PutsFrom asks old dir line (source.Mistaken told) w new = (new ≡ old) × (w ≡ went.Told told)
 
-abbrev pub SyncsFrom : {R : Type 0} → (asks : R → Command → Answer → R → Type 0) → R → (dir : List (List ℕ)) → Line → NamedLocal → Went → R → Type 0
-SyncsFrom asks old dir line (namedlocal.Path local) w new = SyncsTo asks old dir line local w new
-SyncsFrom asks old dir line (namedlocal.Mistaken told) w new = (new ≡ old) × (w ≡ went.Told told)
+abbrev pub SyncsFrom : {R : Type 0} → (asks : R → Command → Answer → R → Type 0) → R → (dir : List (List ℕ)) → Line → Source → Went → R → Type 0
+SyncsFrom asks old dir line (source.Here local is_folder) w new = SyncsTo asks old dir line local is_folder w new
+SyncsFrom asks old dir line (source.Mistaken told) w new = (new ≡ old) × (w ≡ went.Told told)
 
-pub record RunsPut {R : Type 0} (asks : R → Command → Answer → R → Type 0) (old : R) (dir : List (List ℕ)) (line : Line) (w : Went) (new : R) : Type 0 where
-  pub source : NamedLocal
+pub record RunsPut {R F : Type 0} (asks : R → Command → Answer → R → Type 0) (finds : F → Bool → List ℕ → Kind → F → Type 0) (old : R) (host : F) (folder : List ℕ) (dir : List (List ℕ)) (line : Line) (w : Went) (new : R) (host' : F) : Type 0 where
+  pub source : Source
+  pub sources : Sources finds host folder (operand_of line 0) line.has_option source host'
   pub goes_on : PutsFrom asks old dir line source w new
 
-pub record RunsSync {R : Type 0} (asks : R → Command → Answer → R → Type 0) (old : R) (dir : List (List ℕ)) (line : Line) (w : Went) (new : R) : Type 0 where
-  pub source : NamedLocal
+pub record RunsSync {R F : Type 0} (asks : R → Command → Answer → R → Type 0) (finds : F → Bool → List ℕ → Kind → F → Type 0) (old : R) (host : F) (folder : List ℕ) (dir : List (List ℕ)) (line : Line) (w : Went) (new : R) (host' : F) : Type 0 where
+  pub source : Source
+  pub sources : Sources finds host folder (operand_of line 0) true source host'
   pub goes_on : SyncsFrom asks old dir line source w new
 
 -- ---- a line
@@ -168,22 +185,27 @@ pub record RunsSync {R : Type 0} (asks : R → Command → Answer → R → Type
 abbrev pub Tells : Went → (Told → Type 0) → Type 0
 Tells w P = (told : Told) × (w ≡ went.Told told) × P told
 
-abbrev pub DoesPath : {R : Type 0} → (asks : R → Command → Answer → R → Type 0) → (content : R → ℕ → List ℕ) → Verb → Line → (dir path : List (List ℕ)) → R → Went → R → (dir' : List (List ℕ)) → Type 0
-DoesPath asks content verb.Cd line dir path old w new dir' = Tells w (λ told. Goes asks old dir path told new dir')
-DoesPath asks content verb.Get line dir path old w new dir' = (new ≡ old) × (dir' ≡ dir) × IsGet path line.has_option w
-DoesPath asks content verb.Mv line dir path old w new dir' = (dir' ≡ dir) × Tells w (λ told. MovesTo asks old dir path (operand_of line 1) told new)
-DoesPath asks content v line dir path old w new dir' = (dir' ≡ dir) × Tells w (λ told. OnPath asks content old v line.has_option path told new)
+abbrev pub DoesPath : {R F : Type 0} → (asks : R → Command → Answer → R → Type 0) → (content : R → ℕ → List ℕ) → (finds : F → Bool → List ℕ → Kind → F → Type 0) → (clears : F → List ℕ → F → Type 0) → Verb → Line → (folder : List ℕ) → (dir path : List (List ℕ)) → R → F → Went → R → F → (dir' : List (List ℕ)) → Type 0
+DoesPath asks content finds clears verb.Cd line folder dir path old host w new host' dir' = (host' ≡ host) × Tells w (λ told. Goes asks old dir path told new dir')
+DoesPath asks content finds clears verb.Get line folder dir path old host w new host' dir' = (new ≡ old) × (dir' ≡ dir) × GetsIf finds clears host (is_name_here (name_got path)) folder line path w host'
+DoesPath asks content finds clears verb.Mv line folder dir path old host w new host' dir' = (host' ≡ host) × (dir' ≡ dir) × Tells w (λ told. MovesTo asks old dir path (operand_of line 1) told new)
+DoesPath asks content finds clears v line folder dir path old host w new host' dir' = (host' ≡ host) × (dir' ≡ dir) × Tells w (λ told. OnPath asks content old v line.has_option path told new)
 
 -- a command whose first word is a path of the server
-pub data RunsNamed {R : Type 0} (asks : R → Command → Answer → R → Type 0) (content : R → ℕ → List ℕ) (line : Line) (dir : List (List ℕ)) (old : R) (w : Went) (new : R) (dir' : List (List ℕ)) : Type 0 where
-  at_path : (path : List (List ℕ)) → path_of dir (operand_of line 0) ≡ Ok path → DoesPath asks content line.verb line dir path old w new dir' → RunsNamed asks content line dir old w new dir'
-  at_mistake : (m : Mistake) → path_of dir (operand_of line 0) ≡ Err m → w ≡ went.Told (mistaken_as (operand_of line 0) m) → new ≡ old → dir' ≡ dir → RunsNamed asks content line dir old w new dir'
+pub data RunsNamed {R F : Type 0} (asks : R → Command → Answer → R → Type 0) (content : R → ℕ → List ℕ) (finds : F → Bool → List ℕ → Kind → F → Type 0) (clears : F → List ℕ → F → Type 0) (line : Line) (folder : List ℕ) (dir : List (List ℕ)) (old : R) (host : F) (w : Went) (new : R) (host' : F) (dir' : List (List ℕ)) : Type 0 where
+  at_path : (path : List (List ℕ)) → path_of dir (operand_of line 0) ≡ Ok path → DoesPath asks content finds clears line.verb line folder dir path old host w new host' dir' → RunsNamed asks content finds clears line folder dir old host w new host' dir'
+  at_mistake : (m : Mistake) → path_of dir (operand_of line 0) ≡ Err m → w ≡ went.Told (mistaken_as (operand_of line 0) m) → new ≡ old → host' ≡ host → dir' ≡ dir → RunsNamed asks content finds clears line folder dir old host w new host' dir'
 
-abbrev pub Runs : {R : Type 0} → (asks : R → Command → Answer → R → Type 0) → (content : R → ℕ → List ℕ) → Verb → Line → (dir : List (List ℕ)) → R → Went → R → (dir' : List (List ℕ)) → Type 0
-Runs asks content verb.Pwd line dir old w new dir' = (w ≡ went.Told (fine (path_text dir ++ codes "\n"))) × (new ≡ old) × (dir' ≡ dir)
-Runs asks content verb.Lcd line dir old w new dir' = (new ≡ old) × (dir' ≡ dir)
-Runs asks content verb.Put line dir old w new dir' = (dir' ≡ dir) × RunsPut asks old dir line w new
-Runs asks content verb.Sync line dir old w new dir' = (dir' ≡ dir) × RunsSync asks old dir line w new
-Runs asks content verb.Help line dir old w new dir' = (w ≡ went.Bye) × (new ≡ old) × (dir' ≡ dir)
-Runs asks content verb.Bye line dir old w new dir' = (w ≡ went.Bye) × (new ≡ old) × (dir' ≡ dir)
-Runs asks content v line dir old w new dir' = RunsNamed asks content line dir old w new dir'
+abbrev pub Runs : {R F : Type 0} → (asks : R → Command → Answer → R → Type 0) → (content : R → ℕ → List ℕ) → (finds : F → Bool → List ℕ → Kind → F → Type 0) → (clears : F → List ℕ → F → Type 0) → Verb → Line → (here : Option (List ℕ)) → (folder : List ℕ) → (dir : List (List ℕ)) → R → F → Went → R → F → (folder' : List ℕ) → (dir' : List (List ℕ)) → Type 0
+Runs asks content finds clears verb.Pwd line here folder dir old host w new host' folder' dir' = (w ≡ went.Told (fine (path_text dir ++ codes "\n"))) × (new ≡ old) × (host' ≡ host) × (dir' ≡ dir)
+Runs asks content finds clears verb.Lcd line here folder dir old host w new host' folder' dir' = (new ≡ old) × (dir' ≡ dir) × Tells w (λ told. LcdIf finds host (has_word (operand_of line 0)) here (operand_of line 0) folder told host' folder')
+Runs asks content finds clears verb.Put line here folder dir old host w new host' folder' dir' = (dir' ≡ dir) × RunsPut asks finds old host folder dir line w new host'
+Runs asks content finds clears verb.Sync line here folder dir old host w new host' folder' dir' = (dir' ≡ dir) × RunsSync asks finds old host folder dir line w new host'
+Runs asks content finds clears verb.Help line here folder dir old host w new host' folder' dir' = (w ≡ went.Bye) × (new ≡ old) × (host' ≡ host) × (dir' ≡ dir)
+Runs asks content finds clears verb.Bye line here folder dir old host w new host' folder' dir' = (w ≡ went.Bye) × (new ≡ old) × (host' ≡ host) × (dir' ≡ dir)
+Runs asks content finds clears v line here folder dir old host w new host' folder' dir' = RunsNamed asks content finds clears line folder dir old host w new host' dir'
+
+-- the folder here changes by lcd alone
+abbrev pub KeepsFolder : Verb → (folder folder' : List ℕ) → Type 0
+KeepsFolder verb.Lcd folder folder' = Unit {0}
+KeepsFolder v folder folder' = folder' ≡ folder

@@ -3,6 +3,7 @@
 #![tactic(auto)]
 
 mod getting;
+mod here;
 mod putting;
 pub mod shell;
 mod unfit;

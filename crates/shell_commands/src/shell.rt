@@ -2,30 +2,31 @@
 //! `specs/Lines.antt` says which path a word names, and what is done with it.
 
 ghost use Rattle.std.specs.Prelude.{◌≡◌, ◌++◌, codes, IfOk, OnOk};
-ghost use Rattle.shell_words.specs.Local.{whole_path};
 ghost use Rattle.shell_words.specs.Paths.{above};
-ghost use Rattle.shell_words.specs.Quoting.{quoted};
 ghost use Rattle.shell_walks.specs.Telling.{fine, path_text};
-ghost use Rattle.shell_commands.specs.Lines.{of_word, mistaken_as, operand_of, Names, gone_to, Goes, MovesTo, IsGet, put_storing, sync_storing, DoesPath, RunsNamed, Runs};
-ghost use Rattle.shell_commands.specs.Lines.{target_if, target_as, LooksTarget, has_word, TargetsIf, Targets};
-ghost use Rattle.shell_commands.specs.Lines.{is_fine, task_as, StoresTo, Stores, PutsTo, SyncsTo, PutsFrom, SyncsFrom, RunsPut, RunsSync};
+ghost use Rattle.shell_commands.specs.Here.{is_name_here, name_got};
+ghost use Rattle.shell_commands.specs.Lines.{mistaken_as, operand_of, Names, gone_to, Goes, MovesTo, GetsInto, Gets, name_into, GetsIf, put_storing, sync_storing};
+ghost use Rattle.shell_commands.specs.Lines.{wants_dir, target_if, is_fit, target_as, LooksTarget, TargetsIf, Targets, is_fine, task_as, StoresTo, Stores};
+ghost use Rattle.shell_commands.specs.Lines.{PutsTo, SyncsTo, PutsFrom, SyncsFrom, RunsPut, RunsSync, DoesPath, RunsNamed, Runs, KeepsFolder};
 
+use crate::here::{
+    NamedLocal, Source, find_source, got, has_word, is_name_here, lcd, name_below, name_got,
+    of_word,
+};
 use command_text::path::Path;
+use command_text::words::is;
 use lb_base::items::{Items, Name};
 use path_commands::doing::{directory_told, is_dir_told, is_known, make_way, move_to, on_path};
 use shell_walks::asking::{Deed, ask_on};
-use shell_walks::folder::{Folder, Kind, LocalFault};
+use shell_walks::folder::{Folder, LocalFault};
 use shell_walks::remote::{Answer, Remote};
 use shell_walks::tasks::{Storing, Task, longer};
-use shell_walks::telling::{
-    fault_words, mistake_words, note_line, path_text, refused_told, why_of,
-};
-use shell_walks::told::{Told, fine, notes};
+use shell_walks::telling::{fault_words, mistake_words, path_text};
+use shell_walks::told::{Told, fine};
 use shell_words::command::{Line, Verb};
-use shell_words::local::{LocalPath, is_component, text_of};
+use shell_words::local::{LocalPath, is_component};
 use shell_words::mistake::{Mistake, ReadError};
 use shell_words::path::{last_of, path_of};
-use shell_words::quoting::quoted;
 use std::alloc::{AllocError, Global};
 
 /// Where a shell stands.
@@ -54,21 +55,6 @@ pub enum Went {
 pub(crate) enum Named {
     Path(Path),
     Mistaken(Told),
-}
-
-/// A path of the host that a word names, or what is wrong with the word.
-enum NamedLocal {
-    Path(LocalPath),
-    Mistaken(Told),
-}
-
-/// This is said of a word.
-fn of_word(alloc: Global, word: &[u8], words: &[u8]) -> Result<Told, AllocError>
-    ensures { IfOk result (λ told. told ≡ of_word word.now words.now) }
-{
-    let about = quoted(alloc, word)?;
-    let line = note_line(alloc, about.as_slice(), words)?;
-    Ok(notes(alloc, line))
 }
 
 /// A mistake in a line.
@@ -139,31 +125,19 @@ fn move_named<R: Remote>(
     }
 }
 
-/// A word for a path of the host without `./` in front, which says nothing; alone it is `.`.
-fn plain(word: &str) -> &str {
-    match word.strip_prefix("./") {
-        Some(rest) if rest.is_empty() => ".",
-        Some(rest) if !rest.starts_with("/") => rest,
-        _ => word,
-    }
-}
-
-/// The path of the host that a word names in a folder, as it is shown.
-fn local_of(alloc: Global, folder: &str, word: &str) -> Result<LocalPath, AllocError> {
-    let word = plain(word);
-    if word == "." {
-        LocalPath::copy_of(alloc, folder)
-    } else {
-        LocalPath::of(alloc, folder, word)
-    }
-}
-
 /// The folder that a path of the host is in.
 fn folder_of(path: &str) -> &str {
     match path.rsplit_once('/') {
         Some((folder, _name)) => folder,
         None => ".",
     }
+}
+
+/// Whether a directory is wanted at the path: a slash ends the word, and a file is stored.
+fn wants_dir(is_folder: bool, word: &[u8]) -> bool
+    ensures { result ≡ wants_dir is_folder word.now }
+{
+    !is_folder && is(&word[word.len().saturating_sub(1)..], b"/")
 }
 
 /// The path that something is stored to: in a directory, under its own name, and else at the path.
@@ -177,21 +151,28 @@ fn target_if(alloc: Global, is_dir: bool, path: Path, last: &[u8]) -> Result<Pat
     }
 }
 
-/// The same by what a look told. Where that failed nothing is stored.
+/// Whether something may be stored there, by what a look told.
+fn is_fit(wants: bool, looked: &Answer) -> bool
+    ensures { result ≡ is_fit wants looked.now }
+{
+    is_known(looked) && (!wants || is_dir_told(looked))
+}
+
+/// The path by what a look told. Where that failed nothing is stored, nor where the directory isn't there that is wanted.
 fn target_as(
     alloc: Global,
-    is_known: bool,
+    is_fit: bool,
     path: Path,
     last: &[u8],
     looked: &Answer,
 ) -> Result<Named, AllocError>
-    ensures { IfOk result (λ n. n ≡ target_as is_known path last.now looked.now) }
+    ensures { IfOk result (λ n. n ≡ target_as is_fit path last.now looked.now) }
 {
-    if is_known {
+    if is_fit {
         let to = target_if(alloc, is_dir_told(looked), path, last)?;
         Ok(Named::Path(to))
     } else {
-        let told = refused_told(alloc, path.as_slice(), why_of(looked))?;
+        let told = directory_told(alloc, path.as_slice(), looked)?;
         Ok(Named::Mistaken(told))
     }
 }
@@ -200,20 +181,14 @@ fn target_as(
 fn look_target<R: Remote>(
     alloc: Global,
     remote: &mut R,
+    wants: bool,
     path: Path,
     last: &[u8],
 ) -> Result<Named, AllocError>
-    ensures { IfOk result (λ n. LooksTarget R.asks remote.old path last.now n remote.new) }
+    ensures { IfOk result (λ n. LooksTarget R.asks remote.old wants path last.now n remote.new) }
 {
     let looked = ask_on(alloc, remote, Deed::Look, path.as_slice())?;
-    target_as(alloc, is_known(&looked), path, last, &looked)
-}
-
-/// Whether there is a word.
-fn has_word(word: &[u8]) -> bool
-    ensures { result ≡ has_word word.now }
-{
-    word.len() > 0
+    target_as(alloc, is_fit(wants, &looked), path, last, &looked)
 }
 
 /// What is stored goes to a path, or below it. It is looked at only where it makes a difference.
@@ -222,15 +197,16 @@ fn targets_if<R: Remote>(
     remote: &mut R,
     is_name: bool,
     has_word: bool,
+    wants: bool,
     path: Path,
     last: &[u8],
 ) -> Result<Named, AllocError>
-    ensures { IfOk result (λ n. TargetsIf R.asks remote.old is_name has_word path last.now n remote.new) }
+    ensures { IfOk result (λ n. TargetsIf R.asks remote.old is_name has_word wants path last.now n remote.new) }
 {
     if !is_name {
         Ok(Named::Path(path))
     } else if has_word {
-        look_target(alloc, remote, path, last)
+        look_target(alloc, remote, wants, path, last)
     } else {
         let to = longer(alloc, path.as_slice(), last)?;
         Ok(Named::Path(to))
@@ -242,10 +218,11 @@ fn remote_target<R: Remote>(
     alloc: Global,
     remote: &mut R,
     dir: &[Name],
+    is_folder: bool,
     word: &[u8],
     last: &[u8],
 ) -> Result<Named, AllocError>
-    ensures { IfOk result (λ n. Targets R.asks remote.old dir.now word.now last.now n remote.new) }
+    ensures { IfOk result (λ n. Targets R.asks remote.old dir.now is_folder word.now last.now n remote.new) }
 {
     match path_named(alloc, dir, word)? {
         Named::Path(path) => {
@@ -254,6 +231,7 @@ fn remote_target<R: Remote>(
                 remote,
                 is_component(last),
                 has_word(word),
+                wants_dir(is_folder, word),
                 path,
                 last,
             )
@@ -356,11 +334,12 @@ fn put_to<R: Remote>(
     dir: &[Name],
     line: &Line,
     local: LocalPath,
+    is_folder: bool,
 ) -> Result<Went, AllocError>
-    ensures { IfOk result (λ w. PutsTo R.asks remote.old dir.now line.now local w remote.new) }
+    ensures { IfOk result (λ w. PutsTo R.asks remote.old dir.now line.now local is_folder w remote.new) }
 {
     let last = last_of(operand(line, 0));
-    let target = remote_target(alloc, remote, dir, operand(line, 1), last)?;
+    let target = remote_target(alloc, remote, dir, is_folder, operand(line, 1), last)?;
     stores(alloc, remote, local, target, put_storing(line.has_option))
 }
 
@@ -370,13 +349,13 @@ fn put_from<R: Remote>(
     remote: &mut R,
     dir: &[Name],
     line: &Line,
-    source: NamedLocal,
+    source: Source,
 ) -> Result<Went, AllocError>
     ensures { IfOk result (λ w. PutsFrom R.asks remote.old dir.now line.now source w remote.new) }
 {
     match source {
-        NamedLocal::Path(local) => put_to(alloc, remote, dir, line, local),
-        NamedLocal::Mistaken(told) => Ok(Went::Told(told)),
+        Source::Here { local, is_folder } => put_to(alloc, remote, dir, line, local, is_folder),
+        Source::Mistaken(told) => Ok(Went::Told(told)),
     }
 }
 
@@ -387,11 +366,18 @@ fn sync_to<R: Remote>(
     dir: &[Name],
     line: &Line,
     local: LocalPath,
+    is_folder: bool,
 ) -> Result<Went, AllocError>
-    ensures { IfOk result (λ w. SyncsTo R.asks remote.old dir.now line.now local w remote.new) }
+    ensures { IfOk result (λ w. SyncsTo R.asks remote.old dir.now line.now local is_folder w remote.new) }
 {
     let target = path_named(alloc, dir, operand(line, 1))?;
-    stores(alloc, remote, local, target, sync_storing(line.has_option))
+    stores(
+        alloc,
+        remote,
+        local,
+        target,
+        sync_storing(line.has_option && is_folder),
+    )
 }
 
 /// `sync`, by what LOCAL is here.
@@ -400,13 +386,75 @@ fn sync_from<R: Remote>(
     remote: &mut R,
     dir: &[Name],
     line: &Line,
-    source: NamedLocal,
+    source: Source,
 ) -> Result<Went, AllocError>
     ensures { IfOk result (λ w. SyncsFrom R.asks remote.old dir.now line.now source w remote.new) }
 {
     match source {
-        NamedLocal::Path(local) => sync_to(alloc, remote, dir, line, local),
-        NamedLocal::Mistaken(told) => Ok(Went::Told(told)),
+        Source::Here { local, is_folder } => sync_to(alloc, remote, dir, line, local, is_folder),
+        Source::Mistaken(told) => Ok(Went::Told(told)),
+    }
+}
+
+/// `get`: a task, and the folder that it writes to is cleared of what stopped fetches left.
+fn gets_into<F: Folder>(alloc: Global, host: &mut F, path: Path, deep: bool, to: NamedLocal) -> Went
+    ensures { GetsInto F.clears host.old path deep to result host.new }
+{
+    match to {
+        NamedLocal::Path(local) => {
+            host.clear(alloc, folder_of(local.as_str()));
+            Went::Works(Task::Get {
+                path,
+                local,
+                deep,
+                id: None,
+            })
+        }
+        NamedLocal::Mistaken(told) => Went::Told(told),
+    }
+}
+
+/// The name under which it is put into a folder. As of a `put`, what a word names that ends in `/.` isn't put into
+/// one under its own name: a `get` that was stopped goes on so.
+fn name_into<'a>(line: &Line, path: &'a [Name]) -> &'a [u8]
+    ensures { result.now ≡ name_into line.now path.now }
+{
+    let is_named = !has_word(operand(line, 1)) || is_component(last_of(operand(line, 0)));
+    name_below(is_named, name_got(path))
+}
+
+/// `get` of what has a name that a file here can have.
+fn gets<F: Folder>(
+    alloc: Global,
+    host: &mut F,
+    folder: &str,
+    line: &Line,
+    path: Path,
+) -> Result<Went, AllocError>
+    ensures { IfOk result (λ w. Gets F.finds F.clears host.old folder.now (operand_of line.now 1) (name_into line.now path) path line.now.has_option w host.new) }
+{
+    let name = name_into(line, path.as_slice());
+    let to = got(alloc, host, folder, operand(line, 1), name)?;
+    Ok(gets_into(alloc, host, path, line.has_option, to))
+}
+
+/// `get`.
+fn gets_if<F: Folder>(
+    alloc: Global,
+    host: &mut F,
+    is_name: bool,
+    folder: &str,
+    line: &Line,
+    path: Path,
+) -> Result<Went, AllocError>
+    ensures { IfOk result (λ w. GetsIf F.finds F.clears host.old is_name folder.now line.now path w host.new) }
+{
+    if is_name {
+        gets(alloc, host, folder, line, path)
+    } else {
+        let name = name_got(path.as_slice());
+        let told = of_word(alloc, name, fault_words(LocalFault::BadName))?;
+        Ok(Went::Told(told))
     }
 }
 
@@ -431,18 +479,6 @@ impl Shell {
         self.dir.as_slice()
     }
 
-    /// The path of the host that a word names.
-    fn named_local(&self, alloc: Global, word: &[u8]) -> Result<NamedLocal, AllocError> {
-        match text_of(word) {
-            Some(text) => Ok(NamedLocal::Path(local_of(alloc, self.folder.as_str(), text)?)),
-            None => Ok(NamedLocal::Mistaken(of_word(
-                alloc,
-                word,
-                fault_words(LocalFault::NotText),
-            )?)),
-        }
-    }
-
     /// `pwd`.
     fn tell_place(&self, alloc: Global) -> Result<Told, AllocError>
         ensures { IfOk result (λ told. told ≡ fine (path_text self.now.dir ++ codes "\n")) }
@@ -450,131 +486,6 @@ impl Shell {
         let mut text = path_text(alloc, self.dir.as_slice())?;
         text.extend_from_slice(b"\n")?;
         Ok(fine(alloc, text))
-    }
-
-    /// `lcd` without a word.
-    fn tell_folder(&self, alloc: Global) -> Result<Told, AllocError>
-        ensures { IfOk result (λ told. told ≡ fine (quoted (whole_path self.now.here self.now.folder) ++ codes "\n")) }
-    {
-        let whole = LocalPath::whole(alloc, &self.here, self.folder.as_str())?;
-        let mut text = quoted(alloc, whole.as_str().as_bytes())?;
-        text.extend_from_slice(b"\n")?;
-        Ok(fine(alloc, text))
-    }
-
-    /// `lcd`: to a folder that is there.
-    fn go_local<F: Folder>(
-        &mut self,
-        alloc: Global,
-        host: &mut F,
-        word: &[u8],
-    ) -> Result<Told, AllocError>
-        ensures { self.new.dir ≡ self.old.dir }
-    {
-        if word.is_empty() {
-            return self.tell_folder(alloc);
-        }
-        match self.named_local(alloc, word)? {
-            NamedLocal::Mistaken(told) => Ok(told),
-            NamedLocal::Path(path) => match host.kind(path.as_str(), true) {
-                Kind::Folder => {
-                    self.folder = path;
-                    Ok(fine(alloc, Items::new(alloc)))
-                }
-                Kind::Missing => of_word(alloc, word, fault_words(LocalFault::Missing)),
-                Kind::Hidden(fault) => of_word(alloc, word, fault_words(fault)),
-                _ => of_word(alloc, word, fault_words(LocalFault::NotFolder)),
-            },
-        }
-    }
-
-    /// The path of the host for what is fetched: in the folder of the word, where one is given that is here, under
-    /// its own name, which has to be text then.
-    fn local_target<F: Folder>(
-        &self,
-        alloc: Global,
-        host: &mut F,
-        word: &[u8],
-        last: &[u8],
-    ) -> Result<NamedLocal, AllocError> {
-        let is_given = !word.is_empty();
-        let word = if is_given { word } else { last };
-        let path = match self.named_local(alloc, word)? {
-            NamedLocal::Path(path) => path,
-            mistaken => return Ok(mistaken),
-        };
-        match (host.kind(path.as_str(), true), text_of(last)) {
-            (Kind::Folder, Some(text)) if is_given && is_component(last) => Ok(NamedLocal::Path(
-                LocalPath::below(alloc, path.as_str(), text)?,
-            )),
-            (Kind::Folder, None) if is_given => Ok(NamedLocal::Mistaken(of_word(
-                alloc,
-                last,
-                fault_words(LocalFault::NotText),
-            )?)),
-            _ => Ok(NamedLocal::Path(path)),
-        }
-    }
-
-    /// `get`. From the folder that it is to write to goes what stopped fetches left. As of a `put`, what a word
-    /// names that ends in `/.` isn't put into a folder under its own name: a `get` that was stopped goes on so.
-    fn get<F: Folder>(
-        &self,
-        alloc: Global,
-        host: &mut F,
-        path: Path,
-        line: &Line,
-    ) -> Result<Went, AllocError>
-        ensures { IfOk result (λ w. IsGet path line.now.has_option w) }
-    {
-        let word = operand(line, 1);
-        let last = match path.as_slice().last() {
-            Some(name) => name.try_clone(alloc)?,
-            None => Name::copy_of(alloc, b".")?,
-        };
-        if !is_component(last.as_slice()) && last.as_slice() != b".".as_slice() {
-            return Ok(Went::Told(of_word(
-                alloc,
-                last.as_slice(),
-                fault_words(LocalFault::BadName),
-            )?));
-        }
-        let is_named = word.is_empty() || is_component(last_of(operand(line, 0)));
-        let under: &[u8] = if is_named { last.as_slice() } else { b"." };
-        match self.local_target(alloc, host, word, under)? {
-            NamedLocal::Path(local) => {
-                host.clear(alloc, folder_of(local.as_str()));
-                Ok(Went::Works(Task::Get {
-                    path,
-                    local,
-                    deep: line.has_option,
-                    id: None,
-                }))
-            }
-            NamedLocal::Mistaken(told) => Ok(Went::Told(told)),
-        }
-    }
-
-    /// What is to be stored, where it is here; a folder only with all that is in it.
-    fn source<F: Folder>(
-        &self,
-        alloc: Global,
-        host: &mut F,
-        from: &[u8],
-        deep: bool,
-    ) -> Result<NamedLocal, AllocError> {
-        let local = match self.named_local(alloc, from)? {
-            NamedLocal::Path(local) => local,
-            mistaken => return Ok(mistaken),
-        };
-        let fault = match host.kind(local.as_str(), true) {
-            Kind::Missing => LocalFault::Missing,
-            Kind::Hidden(fault) => fault,
-            Kind::Folder if !deep => LocalFault::NotDeep,
-            _ => return Ok(NamedLocal::Path(local)),
-        };
-        let told = of_word(alloc, local.as_str().as_bytes(), fault_words(fault))?;
-        Ok(NamedLocal::Mistaken(told))
     }
 
     /// `put`.
@@ -585,9 +496,10 @@ impl Shell {
         host: &mut F,
         line: &Line,
     ) -> Result<Went, AllocError>
-        ensures { IfOk result (λ w. RunsPut R.asks remote.old self.now.dir line.now w remote.new) }
+        ensures { IfOk result (λ w. RunsPut R.asks F.finds remote.old host.old self.now.folder self.now.dir line.now w remote.new host.new) }
     {
-        let source = self.source(alloc, host, operand(line, 0), line.has_option)?;
+        let deep = line.has_option;
+        let source = find_source(alloc, host, self.folder.as_str(), operand(line, 0), deep)?;
         put_from(alloc, remote, self.dir.as_slice(), line, source)
     }
 
@@ -599,9 +511,9 @@ impl Shell {
         host: &mut F,
         line: &Line,
     ) -> Result<Went, AllocError>
-        ensures { IfOk result (λ w. RunsSync R.asks remote.old self.now.dir line.now w remote.new) }
+        ensures { IfOk result (λ w. RunsSync R.asks F.finds remote.old host.old self.now.folder self.now.dir line.now w remote.new host.new) }
     {
-        let source = self.source(alloc, host, operand(line, 0), true)?;
+        let source = find_source(alloc, host, self.folder.as_str(), operand(line, 0), true)?;
         sync_from(alloc, remote, self.dir.as_slice(), line, source)
     }
 
@@ -614,14 +526,19 @@ impl Shell {
         line: &Line,
         path: Path,
     ) -> Result<Went, AllocError>
-        ensures { IfOk result (λ w. DoesPath R.asks R.content line.now.verb line.now self.old.dir path remote.old w remote.new self.new.dir) }
+        ensures does { IfOk result (λ w. DoesPath R.asks R.content F.finds F.clears line.now.verb line.now self.old.folder self.old.dir path remote.old host.old w remote.new host.new self.new.dir) }
+        ensures folder { self.new.folder ≡ self.old.folder }
+        ensures here { self.new.here ≡ self.old.here }
     {
         match line.verb {
             Verb::Cd => {
                 let told = go(alloc, remote, &mut self.dir, path)?;
                 Ok(Went::Told(told))
             }
-            Verb::Get => self.get(alloc, host, path, line),
+            Verb::Get => {
+                let is_name = is_name_here(name_got(path.as_slice()));
+                gets_if(alloc, host, is_name, self.folder.as_str(), line, path)
+            }
             Verb::Mv => {
                 let dir = self.dir.as_slice();
                 let told = move_named(alloc, remote, dir, path.as_slice(), operand(line, 1))?;
@@ -642,7 +559,9 @@ impl Shell {
         host: &mut F,
         line: &Line,
     ) -> Result<Went, AllocError>
-        ensures { IfOk result (λ w. RunsNamed R.asks R.content line.now self.old.dir remote.old w remote.new self.new.dir) }
+        ensures runs { IfOk result (λ w. RunsNamed R.asks R.content F.finds F.clears line.now self.old.folder self.old.dir remote.old host.old w remote.new host.new self.new.dir) }
+        ensures folder { self.new.folder ≡ self.old.folder }
+        ensures here { self.new.here ≡ self.old.here }
     {
         match path_named(alloc, self.dir.as_slice(), operand(line, 0))? {
             Named::Path(path) => self.run_on(alloc, remote, host, line, path),
@@ -658,11 +577,17 @@ impl Shell {
         host: &mut F,
         line: &Line,
     ) -> Result<Went, AllocError>
-        ensures { IfOk result (λ w. Runs R.asks R.content line.now.verb line.now self.old.dir remote.old w remote.new self.new.dir) }
+        ensures runs { IfOk result (λ w. Runs R.asks R.content F.finds F.clears line.now.verb line.now self.old.here self.old.folder self.old.dir remote.old host.old w remote.new host.new self.new.folder self.new.dir) }
+        ensures folder { KeepsFolder line.now.verb self.old.folder self.new.folder }
+        ensures here { self.new.here ≡ self.old.here }
     {
         match line.verb {
             Verb::Pwd => Ok(Went::Told(self.tell_place(alloc)?)),
-            Verb::Lcd => Ok(Went::Told(self.go_local(alloc, host, operand(line, 0))?)),
+            Verb::Lcd => {
+                let word = operand(line, 0);
+                let told = lcd(alloc, host, &self.here, &mut self.folder, word)?;
+                Ok(Went::Told(told))
+            }
             Verb::Put => self.put(alloc, remote, host, line),
             Verb::Sync => self.sync(alloc, remote, host, line),
             Verb::Bye | Verb::Help => Ok(Went::Bye),
