@@ -209,3 +209,7 @@ Runs asks content finds clears v line here folder dir old host w new host' folde
 abbrev pub KeepsFolder : Verb → (folder folder' : List ℕ) → Type 0
 KeepsFolder verb.Lcd folder folder' = Unit {0}
 KeepsFolder v folder folder' = folder' ≡ folder
+
+-- where a shell stands first: at the server's root, and in the folder that the program runs in
+abbrev pub StandsFirst : (here : Option (List ℕ)) → (dir : List (List ℕ)) → (folder : List ℕ) → (here' : Option (List ℕ)) → Type 0
+StandsFirst here dir folder here' = (dir ≡ []) × (folder ≡ codes ".") × (here' ≡ here)

@@ -7,7 +7,7 @@ ghost use Rattle.shell_walks.specs.Telling.{fine, path_text};
 ghost use Rattle.shell_commands.specs.Here.{is_name_here, name_got};
 ghost use Rattle.shell_commands.specs.Lines.{mistaken_as, operand_of, Names, gone_to, Goes, MovesTo, GetsInto, Gets, name_into, GetsIf, put_storing, sync_storing};
 ghost use Rattle.shell_commands.specs.Lines.{wants_dir, target_if, is_fit, target_as, LooksTarget, TargetsIf, Targets, is_fine, task_as, StoresTo, Stores};
-ghost use Rattle.shell_commands.specs.Lines.{PutsTo, SyncsTo, PutsFrom, SyncsFrom, RunsPut, RunsSync, DoesPath, RunsNamed, Runs, KeepsFolder};
+ghost use Rattle.shell_commands.specs.Lines.{PutsTo, SyncsTo, PutsFrom, SyncsFrom, RunsPut, RunsSync, DoesPath, RunsNamed, Runs, KeepsFolder, StandsFirst};
 
 use crate::here::{
     NamedLocal, Source, find_source, got, has_word, is_name_here, lcd, name_below, name_got,
@@ -460,7 +460,9 @@ fn gets_if<F: Folder>(
 
 impl Shell {
     /// A shell at the server's root, and in the folder that the program runs in, which is this one, where it is known.
-    pub fn new(alloc: Global, here: &Option<LocalPath>) -> Result<Shell, AllocError> {
+    pub fn new(alloc: Global, here: &Option<LocalPath>) -> Result<Shell, AllocError>
+        ensures { IfOk result (λ shell. StandsFirst here.now shell.dir shell.folder shell.here) }
+    {
         let here = match here {
             Some(path) => Some(LocalPath::copy_of(alloc, path.as_str())?),
             None => None,
