@@ -11,7 +11,6 @@ use Rattle.shell_commands.specs.Lines.{DoesPath, MovesTo, MovesTo.mistaken_so, N
 use Rattle.shell_commands.specs.Here.{has_word, LcdIf}
 use Rattle.shell_commands.specs.declared.shell.Named.{Named}
 use Rattle.shell_commands.specs.declared.shell.Named.TheVariants as named
-use Rattle.shell_commands.specs.declared.shell.Went.{Went}
 use Rattle.shell_commands.specs.declared.shell.Went.TheVariants as went
 
 pub named_as : (d dir : List (List ℕ)) (w word : List ℕ) (n m : Named) → d ≡ dir → w ≡ word → n ≡ m → Names d w n → Names dir word m

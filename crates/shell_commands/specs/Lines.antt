@@ -14,7 +14,6 @@ use Rattle.shell_walks.specs.declared.folder.Kind.{Kind}
 use Rattle.shell_walks.specs.declared.folder.LocalFault.TheVariants as fault
 use Rattle.shell_walks.specs.declared.remote.Answer.{Answer}
 use Rattle.shell_walks.specs.declared.tasks.Storing.{Storing}
-use Rattle.shell_walks.specs.declared.tasks.Task.{Task}
 use Rattle.shell_walks.specs.declared.tasks.Task.TheVariants as task
 use Rattle.shell_walks.specs.declared.told.Told.{Told}
 use Rattle.path_commands.specs.Doing.{directory_told, is_dir_told, is_known, MakesWay, Moves, OnPath}
