@@ -7,7 +7,7 @@ use Rattle.shell_words.specs.declared.command.Verb.TheVariants as verb
 use Rattle.shell_walks.specs.declared.folder.Kind.{Kind}
 use Rattle.shell_walks.specs.declared.remote.Answer.{Answer}
 use Rattle.shell_walks.specs.declared.told.Told.{Told}
-use Rattle.shell_commands.specs.Lines.{DoesPath, MovesTo, MovesTo.mistaken_so, Names, operand_of, Runs, RunsNamed, RunsNamed.at_mistake}
+use Rattle.shell_commands.specs.Lines.{DoesPath, MovesTo, MovesTo.mistaken_so, Names, operand_of, RunsAs, RunsNamed, RunsNamed.at_mistake}
 use Rattle.shell_commands.specs.Here.{has_word, LcdIf}
 use Rattle.shell_commands.specs.declared.shell.Named.{Named}
 use Rattle.shell_commands.specs.declared.shell.Named.TheVariants as named
@@ -32,7 +32,7 @@ mv_so asks content finds clears v line folder d dir p path word old new h told i
     let c : MovesTo asks old dir path (operand_of line 1) told new = subst (λ (x : List ℕ). MovesTo asks old dir path x told new) e3 b in
     subst (λ (x : Verb). DoesPath asks content finds clears x line folder dir path old h (went.Told told) new h dir) (sym is) (refl, refl, (told, refl, c))
 
-pub lcd_so : {R F : Type 0} (asks : R → Command → Answer → R → Type 0) (content : R → ℕ → List ℕ) (finds : F → Bool → List ℕ → Kind → F → Type 0) (clears : F → List ℕ → F → Type 0) (v : Verb) (line : Line) (here : Option (List ℕ)) (folder word : List ℕ) (dir : List (List ℕ)) (s : R) (h h' : F) (told : Told) (folder' : List ℕ) → v ≡ verb.Lcd → word ≡ operand_of line 0 → LcdIf finds h (has_word word) here word folder told h' folder' → Runs asks content finds clears v line here folder dir s h (went.Told told) s h' folder' dir
+pub lcd_so : {R F : Type 0} (asks : R → Command → Answer → R → Type 0) (content : R → ℕ → List ℕ) (finds : F → Bool → List ℕ → Kind → F → Type 0) (clears : F → List ℕ → F → Type 0) (v : Verb) (line : Line) (here : Option (List ℕ)) (folder word : List ℕ) (dir : List (List ℕ)) (s : R) (h h' : F) (told : Told) (folder' : List ℕ) → v ≡ verb.Lcd → word ≡ operand_of line 0 → LcdIf finds h (has_word word) here word folder told h' folder' → RunsAs asks content finds clears v line here folder dir s h (went.Told told) s h' folder' dir
 lcd_so asks content finds clears v line here folder word dir s h h' told folder' is e k =
     let a : LcdIf finds h (has_word (operand_of line 0)) here (operand_of line 0) folder told h' folder' = subst (λ (x : List ℕ). LcdIf finds h (has_word x) here x folder told h' folder') e k in
-    subst (λ (x : Verb). Runs asks content finds clears x line here folder dir s h (went.Told told) s h' folder' dir) (sym is) (refl, refl, (told, refl, a))
+    subst (λ (x : Verb). RunsAs asks content finds clears x line here folder dir s h (went.Told told) s h' folder' dir) (sym is) (refl, refl, (told, refl, a))

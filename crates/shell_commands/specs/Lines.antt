@@ -24,6 +24,7 @@ use Rattle.shell_commands.specs.declared.here.Source.{Source}
 use Rattle.shell_commands.specs.declared.here.Source.TheVariants as source
 use Rattle.shell_commands.specs.declared.shell.Named.{Named}
 use Rattle.shell_commands.specs.declared.shell.Named.TheVariants as named
+use Rattle.shell_commands.specs.declared.shell.Shell.{Shell}
 use Rattle.shell_commands.specs.declared.shell.Went.{Went}
 use Rattle.shell_commands.specs.declared.shell.Went.TheVariants as went
 
@@ -195,14 +196,17 @@ pub data RunsNamed {R F : Type 0} (asks : R → Command → Answer → R → Typ
   at_path : (path : List (List ℕ)) → path_of dir (operand_of line 0) ≡ Ok path → DoesPath asks content finds clears line.verb line folder dir path old host w new host' dir' → RunsNamed asks content finds clears line folder dir old host w new host' dir'
   at_mistake : (m : Mistake) → path_of dir (operand_of line 0) ≡ Err m → w ≡ went.Told (mistaken_as (operand_of line 0) m) → new ≡ old → host' ≡ host → dir' ≡ dir → RunsNamed asks content finds clears line folder dir old host w new host' dir'
 
-abbrev pub Runs : {R F : Type 0} → (asks : R → Command → Answer → R → Type 0) → (content : R → ℕ → List ℕ) → (finds : F → Bool → List ℕ → Kind → F → Type 0) → (clears : F → List ℕ → F → Type 0) → Verb → Line → (here : Option (List ℕ)) → (folder : List ℕ) → (dir : List (List ℕ)) → R → F → Went → R → F → (folder' : List ℕ) → (dir' : List (List ℕ)) → Type 0
-Runs asks content finds clears verb.Pwd line here folder dir old host w new host' folder' dir' = (w ≡ went.Told (fine (path_text dir ++ codes "\n"))) × (new ≡ old) × (host' ≡ host) × (dir' ≡ dir)
-Runs asks content finds clears verb.Lcd line here folder dir old host w new host' folder' dir' = (new ≡ old) × (dir' ≡ dir) × Tells w (λ told. LcdIf finds host (has_word (operand_of line 0)) here (operand_of line 0) folder told host' folder')
-Runs asks content finds clears verb.Put line here folder dir old host w new host' folder' dir' = (dir' ≡ dir) × RunsPut asks finds old host folder dir line w new host'
-Runs asks content finds clears verb.Sync line here folder dir old host w new host' folder' dir' = (dir' ≡ dir) × RunsSync asks finds old host folder dir line w new host'
-Runs asks content finds clears verb.Help line here folder dir old host w new host' folder' dir' = (w ≡ went.Bye) × (new ≡ old) × (host' ≡ host) × (dir' ≡ dir)
-Runs asks content finds clears verb.Bye line here folder dir old host w new host' folder' dir' = (w ≡ went.Bye) × (new ≡ old) × (host' ≡ host) × (dir' ≡ dir)
-Runs asks content finds clears v line here folder dir old host w new host' folder' dir' = RunsNamed asks content finds clears line folder dir old host w new host' dir'
+abbrev pub RunsAs : {R F : Type 0} → (asks : R → Command → Answer → R → Type 0) → (content : R → ℕ → List ℕ) → (finds : F → Bool → List ℕ → Kind → F → Type 0) → (clears : F → List ℕ → F → Type 0) → Verb → Line → (here : Option (List ℕ)) → (folder : List ℕ) → (dir : List (List ℕ)) → R → F → Went → R → F → (folder' : List ℕ) → (dir' : List (List ℕ)) → Type 0
+RunsAs asks content finds clears verb.Pwd line here folder dir old host w new host' folder' dir' = (w ≡ went.Told (fine (path_text dir ++ codes "\n"))) × (new ≡ old) × (host' ≡ host) × (dir' ≡ dir)
+RunsAs asks content finds clears verb.Lcd line here folder dir old host w new host' folder' dir' = (new ≡ old) × (dir' ≡ dir) × Tells w (λ told. LcdIf finds host (has_word (operand_of line 0)) here (operand_of line 0) folder told host' folder')
+RunsAs asks content finds clears verb.Put line here folder dir old host w new host' folder' dir' = (dir' ≡ dir) × RunsPut asks finds old host folder dir line w new host'
+RunsAs asks content finds clears verb.Sync line here folder dir old host w new host' folder' dir' = (dir' ≡ dir) × RunsSync asks finds old host folder dir line w new host'
+RunsAs asks content finds clears verb.Help line here folder dir old host w new host' folder' dir' = (w ≡ went.Bye) × (new ≡ old) × (host' ≡ host) × (dir' ≡ dir)
+RunsAs asks content finds clears verb.Bye line here folder dir old host w new host' folder' dir' = (w ≡ went.Bye) × (new ≡ old) × (host' ≡ host) × (dir' ≡ dir)
+RunsAs asks content finds clears v line here folder dir old host w new host' folder' dir' = RunsNamed asks content finds clears line folder dir old host w new host' dir'
+
+abbrev pub Runs : {R F : Type 0} → (asks : R → Command → Answer → R → Type 0) → (content : R → ℕ → List ℕ) → (finds : F → Bool → List ℕ → Kind → F → Type 0) → (clears : F → List ℕ → F → Type 0) → Line → Shell → R → F → Went → R → F → Shell → Type 0
+Runs asks content finds clears line shell old host w new host' shell' = RunsAs asks content finds clears line.verb line shell.here shell.folder shell.dir old host w new host' shell'.folder shell'.dir
 
 -- the folder here changes by lcd alone
 abbrev pub KeepsFolder : Verb → (folder folder' : List ℕ) → Type 0

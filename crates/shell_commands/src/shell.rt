@@ -579,7 +579,7 @@ impl Shell {
         host: &mut F,
         line: &Line,
     ) -> Result<Went, AllocError>
-        ensures runs { IfOk result (λ w. Runs R.asks R.content F.finds F.clears line.now.verb line.now self.old.here self.old.folder self.old.dir remote.old host.old w remote.new host.new self.new.folder self.new.dir) }
+        ensures runs { IfOk result (λ w. Runs R.asks R.content F.finds F.clears line.now self.old remote.old host.old w remote.new host.new self.new) }
         ensures folder { KeepsFolder line.now.verb self.old.folder self.new.folder }
         ensures here { self.new.here ≡ self.old.here }
     {
