@@ -1,11 +1,16 @@
--- Worked rows of what tasks come to.
+-- Worked rows of what a line's words name, and of what tasks come to.
 use Rattle.std.specs.Prelude.{◌≡◌, [], ◌∷◌, true, false, Some, None, codes, refl}
+use Rattle.shell_walks.specs.declared.folder.Kind.TheVariants as kind
 use Rattle.shell_walks.specs.declared.remote.Answer.TheVariants as answer
 use Rattle.shell_walks.specs.declared.remote.Why.TheVariants as why
 use Rattle.shell_walks.specs.declared.tasks.Storing.{Storing}
 use Rattle.shell_walks.specs.declared.tasks.Task.TheVariants as task
+use Rattle.shell_commands.specs.Here.{is_into, local_in, name_got, plain, source_as}
+use Rattle.shell_commands.specs.Lines.{is_fit, target_as, wants_dir}
 use Rattle.shell_commands.specs.Putting.{again_if, in_known, in_listed, stored_as}
 use Rattle.shell_commands.specs.Visiting.{removed_as}
+use Rattle.shell_commands.specs.declared.here.Source.TheVariants as source
+use Rattle.shell_commands.specs.declared.shell.Named.TheVariants as named
 
 abbrev cleaning : Storing
 cleaning = record { deep = true; changed_only = true; deletes = true; fresh = false; inner = true; id = None }
@@ -30,3 +35,55 @@ stays = refl
 
 pub synced : stored_as (codes "a" ∷ []) true 3 ≡ record { more = []; note = []; news = codes "/a: stored\n"; files = 1; bytes = 3; is_off = false; left = 0 }
 synced = refl
+
+-- ---- words for what is here
+
+pub the_folder_itself : local_in (codes "./f") (plain (codes "./")) ≡ codes "./f"
+the_folder_itself = refl
+
+pub in_the_folder : local_in (codes ".") (plain (codes "./t")) ≡ codes "./t"
+in_the_folder = refl
+
+pub two_slashes : local_in (codes ".") (plain (codes ".//t")) ≡ codes "././/t"
+two_slashes = refl
+
+pub from_the_root : local_in (codes "f") (plain (codes "/t")) ≡ codes "/t"
+from_the_root = refl
+
+-- into a folder that was named, but where what is in PATH/. is got, and not into the one that has the same name
+pub into_named : is_into true (codes "t") kind.Folder ≡ true
+into_named = refl
+
+pub into_itself : is_into true (codes ".") kind.Folder ≡ false
+into_itself = refl
+
+pub none_named : is_into false (codes "t") kind.Folder ≡ false
+none_named = refl
+
+pub the_last_name : name_got (codes "d" ∷ codes "t" ∷ []) ≡ codes "t"
+the_last_name = refl
+
+pub of_the_root : name_got [] ≡ codes "."
+of_the_root = refl
+
+pub no_folder_without_r : source_as false (codes "./d") kind.Folder ≡ source.Mistaken (record { text = []; note = codes "./d: it is a folder here (put -r stores folders)\n" })
+no_folder_without_r = refl
+
+pub a_file_here : source_as true (codes "./f") kind.File ≡ source.Here (codes "./f") false
+a_file_here = refl
+
+-- a file goes to nw/ where that is a directory alone
+pub a_slash : wants_dir false (codes "t/nw/") ≡ true
+a_slash = refl
+
+pub no_slash : wants_dir false (codes "t/nw") ≡ false
+no_slash = refl
+
+pub a_folder_makes_it : wants_dir true (codes "t/nw/") ≡ false
+a_folder_makes_it = refl
+
+pub no_directory : target_as (is_fit true (answer.Failed (why.Refused 2))) (codes "nw" ∷ []) (codes "f") (answer.Failed (why.Refused 2)) ≡ named.Mistaken (record { text = []; note = codes "/nw: no such file or directory\n" })
+no_directory = refl
+
+pub no_slash_behind : target_as (is_fit false (answer.Failed (why.Refused 2))) (codes "nw" ∷ []) (codes "f") (answer.Failed (why.Refused 2)) ≡ named.Path (codes "nw" ∷ [])
+no_slash_behind = refl
