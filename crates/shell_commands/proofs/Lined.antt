@@ -1,5 +1,7 @@
 -- What a line comes to, by the cases of its command.
-use Rattle.std.proofs.Common.{◌≡◌, refl, sym, subst, ap, ℕ, List, Bool, Option}
+use Rattle.std.proofs.Common.{◌≡◌, refl, sym, subst, ap, ℕ, ◌+◌, ◌≤◌, List, length, take, drop, Bool, Option, Some, None, MatchOption, Bor}
+use Rattle.std.specs.Prelude.{codes}
+use Rattle.std.specs.Str.Pattern.{RFindsChar}
 use Rattle.command_text.specs.declared.command.Command.{Command}
 use Rattle.shell_words.specs.declared.command.Line.{Line}
 use Rattle.shell_words.specs.declared.command.Verb.{Verb}
@@ -8,7 +10,7 @@ use Rattle.shell_walks.specs.declared.folder.Kind.{Kind}
 use Rattle.shell_walks.specs.declared.remote.Answer.{Answer}
 use Rattle.shell_walks.specs.declared.told.Told.{Told}
 use Rattle.shell_commands.specs.Lines.{DoesPath, MovesTo, MovesTo.mistaken_so, Names, operand_of, RunsAs, RunsNamed, RunsNamed.at_mistake}
-use Rattle.shell_commands.specs.Here.{has_word, LcdIf}
+use Rattle.shell_commands.specs.Here.{has_word, IsFolderOf, IsFolderOf.before_slash, IsFolderOf.without_slash, LcdIf}
 use Rattle.shell_commands.specs.declared.shell.Named.{Named}
 use Rattle.shell_commands.specs.declared.shell.Named.TheVariants as named
 use Rattle.shell_commands.specs.declared.shell.Went.TheVariants as went
@@ -36,3 +38,17 @@ pub lcd_so : {R F : Type 0} (asks : R → Command → Answer → R → Type 0) (
 lcd_so asks content finds clears v line here folder word dir s h h' told folder' is e k =
     let a : LcdIf finds h (has_word (operand_of line 0)) here (operand_of line 0) folder told h' folder' = subst (λ (x : List ℕ). LcdIf finds h (has_word x) here x folder told h' folder') e k in
     subst (λ (x : Verb). RunsAs asks content finds clears x line here folder dir s h (went.Told told) s h' folder' dir) (sym is) (refl, refl, (told, refl, a))
+
+-- what `rsplit_once` ensures of its two parts
+abbrev Splits : (path : List ℕ) → Bor (List ℕ) × Bor (List ℕ) → Type 0
+Splits path x = (i : ℕ) × (j : ℕ) × RFindsChar 47 path (Some (i, j)) × (x.0.now ≡ take i path) × (x.1.now ≡ drop j path) × (i ≤ j) × (length x.0.now ≡ i) × (length x.1.now + j ≡ length path)
+
+pub before_so : (path : List ℕ) (r : Option (Bor (List ℕ) × Bor (List ℕ))) (x : Bor (List ℕ) × Bor (List ℕ)) → r ≡ Some x → MatchOption r (RFindsChar 47 path None) (Splits path) → IsFolderOf path x.0.now
+before_so path r x is h =
+    let m : Splits path x = subst (λ (o : Option (Bor (List ℕ) × Bor (List ℕ))). MatchOption o (RFindsChar 47 path None) (Splits path)) is h in
+    before_slash m.0 m.1 m.2 m.3
+
+pub without_so : (path : List ℕ) (r : Option (Bor (List ℕ) × Bor (List ℕ))) → r ≡ None → MatchOption r (RFindsChar 47 path None) (Splits path) → IsFolderOf path (codes ".")
+without_so path r is h =
+    let m : RFindsChar 47 path None = subst (λ (o : Option (Bor (List ℕ) × Bor (List ℕ))). MatchOption o (RFindsChar 47 path None) (Splits path)) is h in
+    without_slash m refl

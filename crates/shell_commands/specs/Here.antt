@@ -1,6 +1,7 @@
 -- What a word names of the host's files, and what a line asks of these: what a path stands for; a get has a folder cleared, too.
 use Rattle.std.specs.Prelude.{◌≡◌, ℕ, ◌-◌, ◌==◌, ◌||◌, ◌&&◌, List, [], ◌++◌, length, take, drop, nat_lt, slice_get, Option, Some, None, Bool, true, false, codes, bytes_eq, if◌then◌else◌}
 use Rattle.std.specs.Str.{is_utf8}
+use Rattle.std.specs.Str.Pattern.{RFindsChar}
 use Rattle.shell_words.specs.Local.{below, is_component, local_path, whole_path}
 use Rattle.shell_words.specs.Paths.{is_absolute}
 use Rattle.shell_words.specs.Quoting.{quoted}
@@ -154,3 +155,8 @@ pub record GotTo {F : Type 0} (finds : F → Bool → List ℕ → Kind → F �
   pub at : NamedLocal
   pub names : at ≡ named_local folder (word_else (has_word word) word name)
   pub goes_on : GotOn finds old (has_word word) name at n new
+
+-- the folder that a path of the host is in: what stands before its last slash (47), which is at i
+pub data IsFolderOf (path folder : List ℕ) : Type 0 where
+  before_slash : (i j : ℕ) → RFindsChar 47 path (Some (i, j)) → folder ≡ take i path → IsFolderOf path folder
+  without_slash : RFindsChar 47 path None → folder ≡ codes "." → IsFolderOf path folder

@@ -17,7 +17,7 @@ use Rattle.shell_walks.specs.declared.tasks.Storing.{Storing}
 use Rattle.shell_walks.specs.declared.tasks.Task.TheVariants as task
 use Rattle.shell_walks.specs.declared.told.Told.{Told}
 use Rattle.path_commands.specs.Doing.{directory_told, is_dir_told, is_known, MakesWay, Moves, OnPath}
-use Rattle.shell_commands.specs.Here.{GotTo, has_word, is_name_here, LcdIf, name_below, name_got, of_word, Sources}
+use Rattle.shell_commands.specs.Here.{GotTo, has_word, IsFolderOf, is_name_here, LcdIf, name_below, name_got, of_word, Sources}
 use Rattle.shell_commands.specs.declared.here.NamedLocal.{NamedLocal}
 use Rattle.shell_commands.specs.declared.here.NamedLocal.TheVariants as namedlocal
 use Rattle.shell_commands.specs.declared.here.Source.{Source}
@@ -67,7 +67,7 @@ pub data MovesTo {R : Type 0} (asks : R → Command → Answer → R → Type 0)
 -- ---- get: a task, and the folder that it writes to is cleared
 
 abbrev pub GetsInto : {F : Type 0} → (clears : F → List ℕ → F → Type 0) → F → (path : List (List ℕ)) → (deep : Bool) → NamedLocal → Went → F → Type 0
-GetsInto clears old path deep (namedlocal.Path local) w new = ((folder : List ℕ) × clears old folder new) × (w ≡ went.Works (task.Get path local deep None))
+GetsInto clears old path deep (namedlocal.Path local) w new = ((folder : List ℕ) × IsFolderOf local folder × clears old folder new) × (w ≡ went.Works (task.Get path local deep None))
 GetsInto clears old path deep (namedlocal.Mistaken told) w new = (new ≡ old) × (w ≡ went.Told told)
 
 pub record Gets {F : Type 0} (finds : F → Bool → List ℕ → Kind → F → Type 0) (clears : F → List ℕ → F → Type 0) (old : F) (folder word name : List ℕ) (path : List (List ℕ)) (deep : Bool) (w : Went) (new : F) : Type 0 where

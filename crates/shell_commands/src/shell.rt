@@ -4,7 +4,7 @@
 ghost use Rattle.std.specs.Prelude.{◌≡◌, ◌++◌, codes, IfOk, OnOk};
 ghost use Rattle.shell_words.specs.Paths.{above};
 ghost use Rattle.shell_walks.specs.Telling.{fine, path_text};
-ghost use Rattle.shell_commands.specs.Here.{is_name_here, name_got};
+ghost use Rattle.shell_commands.specs.Here.{IsFolderOf, is_name_here, name_got};
 ghost use Rattle.shell_commands.specs.Lines.{mistaken_as, operand_of, Names, gone_to, Goes, MovesTo, GetsInto, Gets, name_into, GetsIf, put_storing, sync_storing};
 ghost use Rattle.shell_commands.specs.Lines.{wants_dir, target_if, is_fit, target_as, LooksTarget, TargetsIf, Targets, is_fine, task_as, StoresTo, Stores};
 ghost use Rattle.shell_commands.specs.Lines.{PutsTo, SyncsTo, PutsFrom, SyncsFrom, RunsPut, RunsSync, DoesPath, RunsNamed, Runs, KeepsFolder, StandsFirst};
@@ -126,7 +126,9 @@ fn move_named<R: Remote>(
 }
 
 /// The folder that a path of the host is in.
-fn folder_of(path: &str) -> &str {
+fn folder_of(path: &str) -> &str
+    ensures { IsFolderOf path.now result.now }
+{
     match path.rsplit_once('/') {
         Some((folder, _name)) => folder,
         None => ".",
