@@ -138,10 +138,15 @@ got_to false local name = namedlocal.Path local
 abbrev pub is_into : (is_given : Bool) → (name : List ℕ) → Kind → Bool
 is_into is_given name k = is_folder k && is_given && is_component name
 
+-- nowhere, where what stands there can't be told
+abbrev pub got_as : (is_given : Bool) → (local name : List ℕ) → Kind → NamedLocal
+got_as is_given local name (kind.Hidden f) = namedlocal.Mistaken (of_word local (fault_text f))
+got_as is_given local name k = got_to (is_into is_given name k) local name
+
 pub record FindsGot {F : Type 0} (finds : F → Bool → List ℕ → Kind → F → Type 0) (old : F) (is_given : Bool) (local name : List ℕ) (n : NamedLocal) (new : F) : Type 0 where
   pub kind : Kind
   pub found : finds old true local kind new
-  pub is : n ≡ got_to (is_into is_given name kind) local name
+  pub is : n ≡ got_as is_given local name kind
 
 abbrev pub GotOn : {F : Type 0} → (finds : F → Bool → List ℕ → Kind → F → Type 0) → F → (is_given : Bool) → (name : List ℕ) → (at n : NamedLocal) → F → Type 0
 GotOn finds old is_given name (namedlocal.Path local) n new = FindsGot finds old is_given local name n new

@@ -1,14 +1,16 @@
 -- Worked rows of what a line's words name, and of what tasks come to.
 use Rattle.std.specs.Prelude.{◌≡◌, [], ◌∷◌, true, false, Some, None, codes, refl}
 use Rattle.shell_walks.specs.declared.folder.Kind.TheVariants as kind
+use Rattle.shell_walks.specs.declared.folder.LocalFault.TheVariants as fault
 use Rattle.shell_walks.specs.declared.remote.Answer.TheVariants as answer
 use Rattle.shell_walks.specs.declared.remote.Why.TheVariants as why
 use Rattle.shell_walks.specs.declared.tasks.Storing.{Storing}
 use Rattle.shell_walks.specs.declared.tasks.Task.TheVariants as task
-use Rattle.shell_commands.specs.Here.{is_into, local_in, name_got, plain, source_as}
+use Rattle.shell_commands.specs.Here.{got_as, is_into, local_in, name_got, plain, source_as}
 use Rattle.shell_commands.specs.Lines.{is_fit, target_as, wants_dir}
 use Rattle.shell_commands.specs.Putting.{again_if, in_known, in_listed, stored_as}
 use Rattle.shell_commands.specs.Visiting.{removed_as}
+use Rattle.shell_commands.specs.declared.here.NamedLocal.TheVariants as namedlocal
 use Rattle.shell_commands.specs.declared.here.Source.TheVariants as source
 use Rattle.shell_commands.specs.declared.shell.Named.TheVariants as named
 
@@ -65,6 +67,10 @@ the_last_name = refl
 
 pub of_the_root : name_got [] ≡ codes "."
 of_the_root = refl
+
+-- a look that failed: nothing is got over what is there
+pub not_told : got_as true (codes "./here") (codes "t") (kind.Hidden fault.Failed) ≡ namedlocal.Mistaken (record { text = []; note = codes "./here: the system failed here\n" })
+not_told = refl
 
 pub no_folder_without_r : source_as false (codes "./d") kind.Folder ≡ source.Mistaken (record { text = []; note = codes "./d: it is a folder here (put -r stores folders)\n" })
 no_folder_without_r = refl

@@ -4,7 +4,7 @@ ghost use Rattle.std.specs.Prelude.{◌≡◌, IfOk};
 ghost use Rattle.std.specs.Str.{is_utf8};
 ghost use Rattle.shell_commands.specs.Here.{of_word, has_word, plain, local_in, named_local, is_folder, lcd_told, lcd_to, FindsFolder, LcdOn, LcdTo};
 ghost use Rattle.shell_commands.specs.Here.{folder_told, LcdIf, not_here, folder_source, source_as, FindsSource, SourceOn, Sources};
-ghost use Rattle.shell_commands.specs.Here.{name_got, is_name_here, name_below, below_if, got_to, is_into, FindsGot, GotOn, word_else, GotTo};
+ghost use Rattle.shell_commands.specs.Here.{name_got, is_name_here, name_below, below_if, got_to, is_into, got_as, FindsGot, GotOn, word_else, GotTo};
 
 use command_text::words::is;
 use lb_base::items::{Items, Name};
@@ -326,6 +326,25 @@ fn is_into(is_given: bool, name: &[u8], kind: Kind) -> bool
     is_folder(kind) && is_given && is_component(name)
 }
 
+/// The path that a `get` writes to, by what was found there. Where that can't be told nothing is fetched.
+fn got_as(
+    alloc: Global,
+    is_given: bool,
+    local: LocalPath,
+    name: &[u8],
+    kind: Kind,
+) -> Result<NamedLocal, AllocError>
+    ensures { IfOk result (λ n. n ≡ got_as is_given local name.now kind) }
+{
+    match kind {
+        Kind::Hidden(fault) => {
+            let told = of_word(alloc, local.as_str().as_bytes(), fault_words(fault))?;
+            Ok(NamedLocal::Mistaken(told))
+        }
+        kind => got_to(alloc, is_into(is_given, name, kind), local, name),
+    }
+}
+
 /// The path that a `get` writes to, by what its word names.
 fn got_on<F: Folder>(
     alloc: Global,
@@ -339,7 +358,7 @@ fn got_on<F: Folder>(
     match at {
         NamedLocal::Path(local) => {
             let kind = host.kind(local.as_str(), true);
-            got_to(alloc, is_into(is_given, name, kind), local, name)
+            got_as(alloc, is_given, local, name, kind)
         }
         NamedLocal::Mistaken(told) => Ok(NamedLocal::Mistaken(told)),
     }
