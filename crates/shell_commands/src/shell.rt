@@ -193,7 +193,7 @@ fn look_target<R: Remote>(
     target_as(alloc, is_fit(wants, &looked), path, last, &looked)
 }
 
-/// What is stored goes to a path, or below it. It is looked at only where it makes a difference.
+/// What is stored stands at a path then, or below it. It is looked at only where it makes a difference.
 fn targets_if<R: Remote>(
     alloc: Global,
     remote: &mut R,
