@@ -7,6 +7,8 @@ use Rattle.lb_base.specs.declared.source.ReadError.{ReadError}
 use Rattle.lb_base.specs.declared.source.ReadError.TheVariants as read
 use Rattle.exit_status.specs.declared.shell_end.ShellEnd.{ShellEnd}
 use Rattle.exit_status.specs.declared.shell_end.ShellEnd.TheVariants as end
+use Rattle.lbfs_shell.specs.declared.saying.Flow.{Flow}
+use Rattle.lbfs_shell.specs.declared.saying.Flow.TheVariants as flow
 
 -- of what touches the output alone
 abbrev pub SinkCause : (writes writes' : ℕ) → ShellEnd → Type 0
@@ -30,6 +32,11 @@ abbrev pub read_end : ReadError → ShellEnd
 read_end read.Fault = end.ReadFault
 read_end read.TooLong = end.TooLong
 read_end read.Memory = end.Memory
+
+-- whether what a line asked for was done
+abbrev pub flow_of : (is_fine : Bool) → Flow
+flow_of true = flow.Done
+flow_of false = flow.Undone
 
 -- the end of a shell that did all that it was told, or not all
 abbrev pub end_of : Bool → ShellEnd

@@ -1,9 +1,10 @@
 //! What a shell writes, and what it says beside that.
 
-ghost use Rattle.std.specs.Prelude.{◌≡◌, ◌≤◌, IfErr, OnOk, OnErr};
+ghost use Rattle.std.specs.Prelude.{◌≡◌, ◌≤◌, IfErr, IfOk, OnOk, OnErr};
+ghost use Rattle.shell_walks.specs.Telling.{is_fine};
 ghost use Rattle.std.specs.Io.KnownBytes.{Appends};
 ghost use Rattle.lb_base.specs.Known.{AppendsPart};
-ghost use Rattle.lbfs_shell.specs.Ends.{SinkCause, given_end, read_end};
+ghost use Rattle.lbfs_shell.specs.Ends.{SinkCause, flow_of, given_end, read_end};
 
 use exit_status::shell_end::ShellEnd;
 use lb_base::sink::{GiveError, Sink, give_all};
@@ -57,7 +58,9 @@ pub(crate) fn write<K: Sink>(sink: &mut K, text: &[u8]) -> Result<(), ShellEnd>
 }
 
 /// Says what a line came to beside what it wrote, and answers whether it was done.
-fn say_rest<P: Screen>(screen: &P, told: &Told) -> Flow {
+fn say_rest<P: Screen>(screen: &P, told: &Told) -> Flow
+    ensures { result ≡ flow_of (is_fine told.now) }
+{
     if told.is_fine() {
         return Flow::Done;
     }
@@ -73,6 +76,7 @@ pub(crate) fn tell<P: Screen, K: Sink>(
 ) -> Result<Flow, ShellEnd>
     ensures whole { OnOk result (Appends (K.held sink.old) (K.held sink.new) told.now.text) }
     ensures part { OnErr result (AppendsPart (K.held sink.old) (K.held sink.new) told.now.text) }
+    ensures flow { IfOk result (λ f. f ≡ flow_of (is_fine told.now)) }
     ensures cause { IfErr result (λ e. SinkCause (K.faults sink.old) (K.faults sink.new) e) }
     ensures later { K.faults sink.old ≤ K.faults sink.new }
 {

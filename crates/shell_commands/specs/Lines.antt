@@ -8,7 +8,7 @@ use Rattle.shell_words.specs.declared.command.Verb.{Verb}
 use Rattle.shell_words.specs.declared.command.Verb.TheVariants as verb
 use Rattle.shell_words.specs.declared.mistake.Mistake.{Mistake}
 use Rattle.shell_walks.specs.Asking.{command_on, AsksOn}
-use Rattle.shell_walks.specs.Telling.{fault_text, fine, mistake_text, path_text}
+use Rattle.shell_walks.specs.Telling.{fault_text, fine, is_fine, mistake_text, path_text}
 use Rattle.shell_walks.specs.declared.asking.Deed.TheVariants as deed
 use Rattle.shell_walks.specs.declared.folder.Kind.{Kind}
 use Rattle.shell_walks.specs.declared.folder.LocalFault.TheVariants as fault
@@ -132,9 +132,6 @@ pub record Targets {R : Type 0} (asks : R → Command → Answer → R → Type 
   pub goes_on : TargetsOn asks old is_folder word last at n new
 
 -- ---- put and sync: a task, where the directories above its path are there then
-
-abbrev pub is_fine : Told → Bool
-is_fine told = length told.note == 0
 
 abbrev pub task_as : (is_fine : Bool) → (local : List ℕ) → (path : List (List ℕ)) → Storing → Told → Went
 task_as true local path s told = went.Works (task.Put local path s)

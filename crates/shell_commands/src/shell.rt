@@ -6,7 +6,7 @@ ghost use Rattle.shell_words.specs.Paths.{above};
 ghost use Rattle.shell_walks.specs.Telling.{fine, path_text};
 ghost use Rattle.shell_commands.specs.Here.{IsFolderOf, is_name_here, name_got};
 ghost use Rattle.shell_commands.specs.Lines.{mistaken_as, operand_of, Names, gone_to, Goes, MovesTo, GetsInto, Gets, name_into, GetsIf, put_storing, sync_storing};
-ghost use Rattle.shell_commands.specs.Lines.{wants_dir, target_if, is_fit, target_as, LooksTarget, TargetsIf, Targets, is_fine, task_as, StoresTo, Stores};
+ghost use Rattle.shell_commands.specs.Lines.{wants_dir, target_if, is_fit, target_as, LooksTarget, TargetsIf, Targets, task_as, StoresTo, Stores};
 ghost use Rattle.shell_commands.specs.Lines.{PutsTo, SyncsTo, PutsFrom, SyncsFrom, RunsPut, RunsSync, DoesPath, RunsNamed, Runs, KeepsFolder, StandsFirst};
 
 use crate::here::{
@@ -249,13 +249,6 @@ fn above(path: &[Name]) -> &[Name]
     &path[..path.len().saturating_sub(1)]
 }
 
-/// Whether nothing is said.
-fn is_fine(told: &Told) -> bool
-    ensures { result ≡ is_fine told.now }
-{
-    told.note.len() == 0
-}
-
 /// What is to be stored is a task, where nothing is said of the directories above.
 fn task_as(is_fine: bool, local: LocalPath, path: Path, storing: Storing, told: Told) -> Went
     ensures { result ≡ task_as is_fine local path storing told }
@@ -282,7 +275,7 @@ fn stores_to<R: Remote>(
     ensures { IfOk result (λ w. StoresTo R.asks remote.old local path storing w remote.new) }
 {
     let told = make_way(alloc, remote, above(path.as_slice()))?;
-    Ok(task_as(is_fine(&told), local, path, storing, told))
+    Ok(task_as(told.is_fine(), local, path, storing, told))
 }
 
 /// `put` and `sync`, by what the word for the path names.

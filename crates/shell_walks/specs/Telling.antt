@@ -18,6 +18,10 @@ fine text = record { text = text; note = [] }
 abbrev pub notes : List ℕ → Told
 notes note = record { text = []; note = note }
 
+-- it was done where nothing is said of it
+abbrev pub is_fine : Told → Bool
+is_fine told = length told.note == 0
+
 -- ---- why something wasn't done, in words
 
 -- the statuses that a server of this project answers (RFC 1813, section 2.6)

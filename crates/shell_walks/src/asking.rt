@@ -4,7 +4,7 @@ ghost use Rattle.std.specs.Prelude.{◌≡◌, ◌<◌, length, IfOk};
 ghost use Rattle.command_text.specs.Paths.{spot_at};
 ghost use Rattle.shell_walks.specs.Asking.{command_at, command_on, AsksOn, Finds, FindsListed, is_gone, rename_of};
 
-use crate::remote::{Answer, Remote, Seen, Why};
+use crate::remote::{Answer, Remote, Why};
 use command_text::command::Command;
 use command_text::path::{Path, PathCommand, Spot};
 use lb_base::items::Name;
@@ -93,22 +93,6 @@ pub fn ask_on<R: Remote>(
     match command_on(deed, path) {
         Ok(command) => Ok(remote.ask(alloc, command)),
         Err(why) => Ok(Answer::Failed(why)),
-    }
-}
-
-/// What a name stands for, if it stands for anything.
-pub fn seen_of(answer: &Answer) -> Option<Seen> {
-    match answer {
-        Answer::Seen(seen) => Some(*seen),
-        _ => None,
-    }
-}
-
-/// Whether the answer is this status.
-pub fn is_status(answer: &Answer, status: u32) -> bool {
-    match answer {
-        Answer::Failed(Why::Refused(told)) => *told == status,
-        _ => false,
     }
 }
 

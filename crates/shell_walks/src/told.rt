@@ -1,7 +1,7 @@
 //! What a command of a shell comes to, as whoever gave it is told.
 
 ghost use Rattle.std.specs.Prelude.{◌≡◌, ◌++◌, [], IfOk};
-ghost use Rattle.shell_walks.specs.Telling.{fine, notes};
+ghost use Rattle.shell_walks.specs.Telling.{fine, is_fine, notes};
 
 use lb_base::items::{Bytes, Items};
 use std::alloc::{AllocError, Global};
@@ -25,7 +25,9 @@ impl Drop for Told {
 
 impl Told {
     /// Whether it was done.
-    pub fn is_fine(&self) -> bool {
+    pub fn is_fine(&self) -> bool
+        ensures { result ≡ is_fine self.now }
+    {
         self.note.is_empty()
     }
 }
