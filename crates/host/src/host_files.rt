@@ -171,7 +171,8 @@ impl<R: HostDisk + Eprint> Files for HostFiles<R> {
     fn has(&self, name: &str) -> bool {
         match fs::metadata(&self.rt, name) {
             Ok(facts) => facts.is_file(),
-            Err(_) => false,
+            // What can't be looked at may be there.
+            Err(why) => why.kind() != ErrorKind::NotFound,
         }
     }
 
