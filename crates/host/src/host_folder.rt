@@ -31,7 +31,7 @@ pub struct HostFolder<'a, R> {
 }
 
 impl<'a, R> HostFolder<'a, R> {
-    /// The host's files. The mark is the process's number, and the number another one for each thread: the file
+    /// The host's files. The mark is the process's number, and the number another one for each thread. The file
     /// that is being written is named after them, or after the next number that is free in its folder.
     pub fn new(rt: R, mark: u32, number: u32, cache: Option<&'a str>) -> HostFolder<'a, R>
         ensures { result ≡ record { rt = rt; mark = mark; number = number; cache = cache.entry } }

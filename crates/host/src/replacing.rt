@@ -1,5 +1,5 @@
-//! How a file of the host is replaced, for a mount and a shell: it is written beside the one that has the name, where
-//! its owner alone may read it, gets the permissions of that one, and is then put in its place.
+//! How a file of the host is replaced, for a mount and a shell. It is written beside the one that has the name, where
+//! its owner alone may read it. It gets the permissions of that one, and is then put in its place.
 
 ghost use Rattle.std.specs.Prelude.{◌≡◌, IfSome, IfNone};
 ghost use Rattle.host.specs.declared.replacing.TheConstants.{OPEN, PRIVATE};
@@ -139,8 +139,8 @@ fn make_new<R: HostDisk>(rt: &R, path: &str, bits: u32) -> io::Result<R::File> {
     options.open(rt, path)
 }
 
-/// A new file beside a target, and its path. A name may be taken, as by what a process left that had the same number,
-/// by what one writes in another container, or by anybody where the folder is anybody's: then it is the next one.
+/// A new file beside a target, and its path. Where a name is taken it is the next one. A process of the same number
+/// may have left a file, or may write one in another container, or the folder is anybody's.
 pub(crate) fn make_beside<R: HostDisk>(
     rt: &R,
     alloc: Global,

@@ -1,6 +1,6 @@
 //! What is served, for the one line that tells it once the server listens: the store knows how many
 //! files there are, and the network when that is. And where it is, for the network's bell; and for how long
-//! leases are granted, which the store waits for and the network notes; and whether changes wait so long behind
+//! leases are granted, which the store waits for and the network notes. And whether changes wait so long behind
 //! the start, as they do where anything was ever changed (`quiet_from` of `lbfs_server`).
 
 use crate::notes::{RunNote, tell};

@@ -74,7 +74,7 @@ fn longer(before: u64, term: u64) -> u64
     before.saturating_sub(term)
 }
 
-/// Writes a file of a folder beside the one at a path, and puts it in its place once it is whole: behind this
+/// Writes a file of a folder beside the one at a path, and puts it in its place once it is whole. Behind this
 /// a cut of power doesn't bring the one before back.
 fn write_whole<R: HostDisk>(
     rt: &R,

@@ -1,5 +1,5 @@
 //! A store that notes, once it is loaded, how many files it has and whether anything was ever changed, for who tells
-//! what is served, and waits then for leases of the run before (`terms`). It is in all else the one that it stands over.
+//! what is served. Then it waits for leases of the run before (`terms`). It is in all else the one that it stands over.
 
 ghost use Rattle.std.specs.Prelude.{◌≡◌};
 
