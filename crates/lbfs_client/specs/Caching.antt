@@ -1,5 +1,5 @@
--- The cache file of a mount: its items are the client's, and what the client keeps is written to it, with the items that stand in it then.
-use Rattle.std.specs.Prelude.{◌≡◌, ◌⊎◌, refl, ℕ, List, [], Option, Some, None, Result, Ok, Err, Bool, not}
+-- The cache file of a mount: its items are the client's, and what the client keeps is written to it, with the items that stand in it then. What is no cache file stays.
+use Rattle.std.specs.Prelude.{◌≡◌, ◌⊎◌, refl, ℕ, List, [], Option, Some, None, Result, Ok, Err, Bool, true, false, not}
 use Rattle.cache_file.specs.Items.{is_cache, items, spelled}
 use Rattle.cache_file.specs.Saved.{given_file, saved}
 use Rattle.lb_base.specs.declared.sink.GiveError.{GiveError}
@@ -70,18 +70,24 @@ SavesOver old c name bytes told new = Writes old name (spelled (saved c.cache (i
 given_is : given_file ≡ cached_file
 given_is = refl
 
--- over what was read: over nothing where it can't be, which isn't said; where memory ran out it stays
-abbrev pub SavesRead : Host → State → (name : List ℕ) → Result (List ℕ) FilesError → Option Answer → Host → Type 0
-SavesRead old c name (Ok bytes) told new = SavesOver old c name bytes told new
-SavesRead old c name (Err errors.Memory) told new = (told ≡ Some (answer_of outcome.Memory)) × (new ≡ old)
-SavesRead old c name (Err e) told new = SavesOver old c name [] told new
+-- where what stands there may be replaced; else it stays, and that is said as of a file that can't be written
+abbrev pub SavesWhere : (replaces : Bool) → Host → State → (name bytes : List ℕ) → Option Answer → Host → Type 0
+SavesWhere true old c name bytes told new = SavesOver old c name bytes told new
+SavesWhere false old c name bytes told new = (told ≡ unwritten_answer (Err give.Failed)) × (new ≡ old)
 
--- it is read once more first
+-- over what was read, which is nothing where no file is there; where memory ran out it stays
+abbrev pub SavesRead : (replaces : Bool) → Host → State → (name : List ℕ) → Result (List ℕ) FilesError → Option Answer → Host → Type 0
+SavesRead replaces old c name (Ok bytes) told new = SavesWhere replaces old c name bytes told new
+SavesRead replaces old c name (Err errors.Memory) told new = (told ≡ Some (answer_of outcome.Memory)) × (new ≡ old)
+SavesRead replaces old c name (Err e) told new = SavesWhere replaces old c name [] told new
+
+-- what stands there by then is looked at once more first
 pub record SavesTo (old : Host) (c : State) (name : List ℕ) (told : Option Answer) (new : Host) : Type 0 where
   pub read : Result (List ℕ) FilesError
   pub between : Host
-  pub reads : HasRead old name read between
-  pub saves : SavesRead between c name read told new
+  pub replaces : Bool
+  pub looks : Looks old name read replaces between
+  pub saves : SavesRead replaces between c name read told new
 
 pub record Saves (m : Mount) (name : List ℕ) (told : Option Answer) (m' : Mount) : Type 0 where
   pub host : SavesTo m.host m.client name told m'.host

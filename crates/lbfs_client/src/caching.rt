@@ -1,7 +1,7 @@
 //! The cache file of a mount, and how much the client keeps: `specs/Caching.antt` says what comes of it.
 
 ghost use Rattle.std.specs.Prelude.{◌≡◌};
-ghost use Rattle.lbfs_client.specs.Caching.{LoadsRead, Looks, SavesOver, SavesRead, SavesTo, WarmedBy, Writes, may_replace, unwritten_answer};
+ghost use Rattle.lbfs_client.specs.Caching.{LoadsRead, Looks, SavesOver, SavesRead, SavesTo, SavesWhere, WarmedBy, Writes, may_replace, unwritten_answer};
 ghost use Rattle.lbfs_client.specs.Host.{HasRead, HasWritten};
 
 use crate::answer::Answer;
@@ -123,26 +123,45 @@ fn save_over<F: Files>(
     }
 }
 
-/// So over what was read of it, which is nothing where it can't be; what is said of that. Where memory ran out it
-/// stays, since its items would be lost.
+/// So where what stands there may be replaced; what is said of that. Else it stays.
+fn save_where<F: Files>(
+    alloc: Global,
+    files: &mut F,
+    client: &Client,
+    name: &str,
+    old: &[u8],
+    replaces: bool,
+) -> Option<Answer>
+    ensures { SavesWhere replaces (record { files = F.files files.old; faults = F.faults files.old }) client.now name.now old.now result (record { files = F.files files.new; faults = F.faults files.new }) }
+{
+    if replaces {
+        save_over(alloc, files, client, name, old)
+    } else {
+        Some(Answer::LocalFault)
+    }
+}
+
+/// So over what was read of it, which is nothing where no file is there; what is said of that. Where memory ran out
+/// it stays, since its items would be lost.
 fn save_read<F: Files>(
     alloc: Global,
     files: &mut F,
     client: &Client,
     name: &str,
     read: Result<Bytes, FilesError>,
+    replaces: bool,
 ) -> Option<Answer>
-    ensures { SavesRead (record { files = F.files files.old; faults = F.faults files.old }) client.now name.now read result (record { files = F.files files.new; faults = F.faults files.new }) }
+    ensures { SavesRead replaces (record { files = F.files files.old; faults = F.faults files.old }) client.now name.now read result (record { files = F.files files.new; faults = F.faults files.new }) }
 {
     match read {
-        Ok(bytes) => save_over(alloc, files, client, name, bytes.as_slice()),
+        Ok(bytes) => save_where(alloc, files, client, name, bytes.as_slice(), replaces),
         Err(FilesError::Memory) => Some(Answer::Ended(Outcome::Memory)),
-        Err(_) => save_over(alloc, files, client, name, &[]),
+        Err(_) => save_where(alloc, files, client, name, &[], replaces),
     }
 }
 
-/// What the client keeps is written to the cache file, and behind it the items that stand in it now, so that it is
-/// read once more; what is said of that.
+/// What the client keeps is written to the cache file, and behind it the items that stand in it now, so that what
+/// stands there by then is looked at once more: it may be another's. What is said of that.
 pub(crate) fn save_kept<F: Files>(
     alloc: Global,
     files: &mut F,
@@ -151,6 +170,6 @@ pub(crate) fn save_kept<F: Files>(
 ) -> Option<Answer>
     ensures { SavesTo (record { files = F.files files.old; faults = F.faults files.old }) client.now name.now result (record { files = F.files files.new; faults = F.faults files.new }) }
 {
-    let bytes = read(alloc, files, name);
-    save_read(alloc, files, client, name, bytes)
+    let (bytes, replaces) = look(alloc, files, name);
+    save_read(alloc, files, client, name, bytes, replaces)
 }
