@@ -1,5 +1,6 @@
 -- A shell's cache file, over what its client makes of one (`warms`), what it has for one (`saves`), and the calls of the host's files.
 use Rattle.std.specs.Prelude.{◌≡◌, ℕ, List, [], Option, Some, None, Bool, true, false, Result, Ok, Err}
+use Rattle.cache_file.specs.Items.{is_cache}
 use Rattle.shell_walks.specs.declared.folder.LocalFault.{LocalFault}
 use Rattle.shell_walks.specs.declared.folder.LocalFault.TheVariants as fault
 
@@ -35,16 +36,21 @@ pub data SavesOver {R F : Type 0} (saves : R → (old bytes : List ℕ) → Type
   saved : (bytes : List ℕ) → saves r old bytes → Writes writes host name bytes wrong host' → SavesOver saves writes r host name old wrong host'
   not_saved : wrong ≡ Some fault.Memory → host' ≡ host → SavesOver saves writes r host name old wrong host'
 
--- where it can't be read, which isn't told: over nothing; where memory ran out it stays
+-- where that is a cache file's, or no bytes; else it stays
+abbrev pub SavesWhere : {R F : Type 0} → (saves : R → (old bytes : List ℕ) → Type 0) → (writes : F → List ℕ → List ℕ → Result Unit LocalFault → F → Type 0) → (replaces : Bool) → R → F → (name old : List ℕ) → Option LocalFault → F → Type 0
+SavesWhere saves writes true r host name old wrong host' = SavesOver saves writes r host name old wrong host'
+SavesWhere saves writes false r host name old wrong host' = (wrong ≡ Some fault.Exists) × (host' ≡ host)
+
+-- where it can't be read it stays, but where none is there
 abbrev pub SavesUnread : {R F : Type 0} → (saves : R → (old bytes : List ℕ) → Type 0) → (writes : F → List ℕ → List ℕ → Result Unit LocalFault → F → Type 0) → R → F → (name : List ℕ) → LocalFault → Option LocalFault → F → Type 0
-SavesUnread saves writes r host name fault.Memory wrong host' = (wrong ≡ Some fault.Memory) × (host' ≡ host)
-SavesUnread saves writes r host name f wrong host' = SavesOver saves writes r host name [] wrong host'
+SavesUnread saves writes r host name fault.Missing wrong host' = SavesOver saves writes r host name [] wrong host'
+SavesUnread saves writes r host name f wrong host' = (wrong ≡ Some f) × (host' ≡ host)
 
 abbrev pub SavesRead : {R F : Type 0} → (saves : R → (old bytes : List ℕ) → Type 0) → (writes : F → List ℕ → List ℕ → Result Unit LocalFault → F → Type 0) → R → F → (name : List ℕ) → Result (List ℕ) LocalFault → Option LocalFault → F → Type 0
-SavesRead saves writes r host name (Ok bytes) wrong host' = SavesOver saves writes r host name bytes wrong host'
+SavesRead saves writes r host name (Ok bytes) wrong host' = SavesWhere saves writes (is_cache bytes) r host name bytes wrong host'
 SavesRead saves writes r host name (Err f) wrong host' = SavesUnread saves writes r host name f wrong host'
 
--- it is read once more first
+-- what stands there by then is read once more first
 pub record Saves {R F : Type 0} (saves : R → (old bytes : List ℕ) → Type 0) (reads : F → List ℕ → Result (List ℕ) LocalFault → F → Type 0) (writes : F → List ℕ → List ℕ → Result Unit LocalFault → F → Type 0) (r : R) (host : F) (name : List ℕ) (wrong : Option LocalFault) (host' : F) : Type 0 where
   pub read : Result (List ℕ) LocalFault
   pub between : F

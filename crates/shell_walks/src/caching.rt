@@ -2,7 +2,8 @@
 //! it (`specs/Caching.antt`).
 
 ghost use Rattle.std.specs.Prelude.{◌≡◌};
-ghost use Rattle.shell_walks.specs.Caching.{LoadsRead, Loads, Saves, SavesOver, SavesRead, SavesUnread, Writes, unwritten, warmed};
+ghost use Rattle.cache_file.specs.Items.{is_cache};
+ghost use Rattle.shell_walks.specs.Caching.{LoadsRead, Loads, Saves, SavesOver, SavesRead, SavesUnread, SavesWhere, Writes, unwritten, warmed};
 
 use crate::folder::{Folder, LocalFault};
 use crate::remote::Remote;
@@ -77,8 +78,39 @@ fn save_over<R: Remote, F: Folder>(
     }
 }
 
-/// So where it can't be read, which has nothing then. Where memory ran out it stays, since what stands in it would be
-/// lost.
+/// So where what stands there may be replaced. Else it stays.
+fn save_where<R: Remote, F: Folder>(
+    alloc: Global,
+    remote: &R,
+    folder: &mut F,
+    name: &str,
+    old: &[u8],
+    replaces: bool,
+) -> Option<LocalFault>
+    ensures { SavesWhere R.saves F.writes replaces remote.now folder.old name.now old.now result folder.new }
+{
+    if replaces {
+        save_over(alloc, remote, folder, name, old)
+    } else {
+        Some(LocalFault::Exists)
+    }
+}
+
+/// So over these bytes, if they are a cache file's.
+fn save_on<R: Remote, F: Folder>(
+    alloc: Global,
+    remote: &R,
+    folder: &mut F,
+    name: &str,
+    old: &[u8],
+) -> Option<LocalFault>
+    ensures { SavesWhere R.saves F.writes (is_cache old.now) remote.now folder.old name.now old.now result folder.new }
+{
+    let replaces = cache_file::is_cache(old);
+    save_where(alloc, remote, folder, name, old, replaces)
+}
+
+/// So where it can't be read: what is there stays, since it may be another's, and what stands in it would be lost.
 fn save_unread<R: Remote, F: Folder>(
     alloc: Global,
     remote: &R,
@@ -89,8 +121,8 @@ fn save_unread<R: Remote, F: Folder>(
     ensures { SavesUnread R.saves F.writes remote.now folder.old name.now fault result folder.new }
 {
     match fault {
-        LocalFault::Memory => Some(LocalFault::Memory),
-        _ => save_over(alloc, remote, folder, name, &[]),
+        LocalFault::Missing => save_over(alloc, remote, folder, name, &[]),
+        fault => Some(fault),
     }
 }
 
@@ -105,13 +137,13 @@ fn save_read<R: Remote, F: Folder>(
     ensures { SavesRead R.saves F.writes remote.now folder.old name.now read result folder.new }
 {
     match read {
-        Ok(bytes) => save_over(alloc, remote, folder, name, bytes.as_slice()),
+        Ok(bytes) => save_on(alloc, remote, folder, name, bytes.as_slice()),
         Err(fault) => save_unread(alloc, remote, folder, name, fault),
     }
 }
 
-/// What the client keeps is written to the cache file of this name, and what stands in it now goes with it. That it
-/// couldn't be written is answered.
+/// What the client keeps is written to the cache file of this name, and what stands in it now goes with it. What is no
+/// cache file by now stays. That it couldn't be written is answered.
 pub fn save<R: Remote, F: Folder>(
     alloc: Global,
     remote: &R,
