@@ -73,6 +73,8 @@ fn found_at<R: HostDisk>(rt: &R, path: &str) -> Result<Option<Metadata>, Untaken
 fn led_to<R: HostDisk>(rt: &R, alloc: Global, path: &str) -> io::Result<String> {
     match rt.symlink_metadata(path) {
         Ok(facts) if facts.is_symlink() => Ok(rt.canonicalize(alloc, path)?.into_string()),
+        // What can't be looked at may be a link.
+        Err(why) if why.kind() != ErrorKind::NotFound => Err(why),
         _ => Ok(String::from_str(alloc, path)?),
     }
 }
