@@ -25,7 +25,7 @@ one_done = refl
 abbrev put_of : (local name : List ℕ) → Task
 put_of local name = task.Put local (name ∷ []) (sync_storing true)
 
-pub put_goes_on : left_out_text 188 (again_text (Some (codes "/home/u")) (put_of (codes "./tree") (codes "tree"))) ≡ codes "not begun: at least 188 more; to go on in lbfs shell: sync --delete /home/u/tree /tree\n"
+pub put_goes_on : left_out_text 188 (again_text (Some (codes "/srv/u")) (put_of (codes "./tree") (codes "tree"))) ≡ codes "not begun: at least 188 more; to go on in lbfs shell: sync --delete /srv/u/tree /tree\n"
 unfolding digits
 put_goes_on = refl
 
@@ -40,8 +40,8 @@ pub removal_left_out : left_out_text 7 [] ≡ codes "not begun: at least 7 more\
 unfolding digits
 removal_left_out = refl
 
--- behind `lcd /tmp/parts`
-pub get_goes_on : stopped_line (record { files = 12; bytes = 50000; undone = 0; is_fine = true }) 188 (again_text (Some (codes "/home/u")) (task.Get (codes "docs" ∷ []) (codes "/tmp/parts/docs") true None)) ≡ codes "stopped: 12 of 200 files, 0.05 MB; to go on in lbfs shell: get -r /docs/. /tmp/parts/docs\n"
+-- behind `lcd /srv/parts`
+pub get_goes_on : stopped_line (record { files = 12; bytes = 50000; undone = 0; is_fine = true }) 188 (again_text (Some (codes "/srv/u")) (task.Get (codes "docs" ∷ []) (codes "/srv/parts/docs") true None)) ≡ codes "stopped: 12 of 200 files, 0.05 MB; to go on in lbfs shell: get -r /docs/. /srv/parts/docs\n"
 unfolding digits
 get_goes_on = refl
 

@@ -20,19 +20,19 @@ help_and_a_word = refl
 pub help_of_nothing : command_of (codes "frob" ∷ codes "--help" ∷ []) ≡ Err mistake.Unknown
 help_of_nothing = refl
 
-pub whole_name : whole_path (Some (codes "/home/u")) (codes "a/b") ≡ codes "/home/u/a/b"
+pub whole_name : whole_path (Some (codes "/srv/u")) (codes "a/b") ≡ codes "/srv/u/a/b"
 whole_name = refl
 
-pub whole_in_the_folder : whole_path (Some (codes "/home/u")) (codes "./a") ≡ codes "/home/u/a"
+pub whole_in_the_folder : whole_path (Some (codes "/srv/u")) (codes "./a") ≡ codes "/srv/u/a"
 whole_in_the_folder = refl
 
-pub whole_folder : whole_path (Some (codes "/home/u")) (codes ".") ≡ codes "/home/u"
+pub whole_folder : whole_path (Some (codes "/srv/u")) (codes ".") ≡ codes "/srv/u"
 whole_folder = refl
 
 pub whole_at_the_root : whole_path (Some (codes "/")) (codes "./a") ≡ codes "/a"
 whole_at_the_root = refl
 
-pub whole_already : whole_path (Some (codes "/home/u")) (codes "/tmp/a") ≡ codes "/tmp/a"
+pub whole_already : whole_path (Some (codes "/srv/u")) (codes "/srv/a") ≡ codes "/srv/a"
 whole_already = refl
 
 pub not_known : whole_path None (codes "./a") ≡ codes "./a"
