@@ -82,12 +82,22 @@ SavesRead replaces old c name (Err errors.Memory) told new = (told ≡ Some (ans
 SavesRead replaces old c name (Err e) told new = SavesWhere replaces old c name [] told new
 
 -- what stands there by then is looked at once more first
-pub record SavesTo (old : Host) (c : State) (name : List ℕ) (told : Option Answer) (new : Host) : Type 0 where
+pub record SavesLooked (old : Host) (c : State) (name : List ℕ) (told : Option Answer) (new : Host) : Type 0 where
   pub read : Result (List ℕ) FilesError
   pub between : Host
   pub replaces : Bool
   pub looks : Looks old name read replaces between
   pub saves : SavesRead replaces between c name read told new
+
+-- where nothing does, it is written over nothing
+abbrev pub SavesThere : (there : Bool) → Host → State → (name : List ℕ) → Option Answer → Host → Type 0
+SavesThere true old c name told new = SavesLooked old c name told new
+SavesThere false old c name told new = SavesOver old c name [] told new
+
+pub record SavesTo (old : Host) (c : State) (name : List ℕ) (told : Option Answer) (new : Host) : Type 0 where
+  pub there : Bool
+  pub there_is : (held : List HostFile) → old.files ≡ Some held → there ≡ is_there name held
+  pub saves : SavesThere there old c name told new
 
 pub record Saves (m : Mount) (name : List ℕ) (told : Option Answer) (m' : Mount) : Type 0 where
   pub host : SavesTo m.host m.client name told m'.host

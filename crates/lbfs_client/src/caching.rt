@@ -1,7 +1,7 @@
 //! The cache file of a mount, and how much the client keeps: `specs/Caching.antt` says what comes of it.
 
 ghost use Rattle.std.specs.Prelude.{◌≡◌};
-ghost use Rattle.lbfs_client.specs.Caching.{LoadsRead, Looks, SavesOver, SavesRead, SavesTo, SavesWhere, WarmedBy, Writes, may_replace, unwritten_answer};
+ghost use Rattle.lbfs_client.specs.Caching.{LoadsRead, Looks, SavesLooked, SavesOver, SavesRead, SavesThere, SavesTo, SavesWhere, WarmedBy, Writes, may_replace, unwritten_answer};
 ghost use Rattle.lbfs_client.specs.Host.{HasRead, HasWritten};
 
 use crate::answer::Answer;
@@ -160,8 +160,38 @@ fn save_read<F: Files>(
     }
 }
 
-/// What the client keeps is written to the cache file, and behind it the items that stand in it now, so that what
-/// stands there by then is looked at once more: it may be another's. What is said of that.
+/// So once what stands there by now was looked at once more: it may be another's. What is said of that.
+fn save_looked<F: Files>(
+    alloc: Global,
+    files: &mut F,
+    client: &Client,
+    name: &str,
+) -> Option<Answer>
+    ensures { SavesLooked (record { files = F.files files.old; faults = F.faults files.old }) client.now name.now result (record { files = F.files files.new; faults = F.faults files.new }) }
+{
+    let (bytes, replaces) = look(alloc, files, name);
+    save_read(alloc, files, client, name, bytes, replaces)
+}
+
+/// So where a file is there; else over nothing, which isn't read: that would be told as a fault.
+fn save_there<F: Files>(
+    alloc: Global,
+    files: &mut F,
+    client: &Client,
+    name: &str,
+    there: bool,
+) -> Option<Answer>
+    ensures { SavesThere there (record { files = F.files files.old; faults = F.faults files.old }) client.now name.now result (record { files = F.files files.new; faults = F.faults files.new }) }
+{
+    if there {
+        save_looked(alloc, files, client, name)
+    } else {
+        save_over(alloc, files, client, name, &[])
+    }
+}
+
+/// What the client keeps is written to the cache file, and behind it the items that stand in it now; what is said of
+/// that.
 pub(crate) fn save_kept<F: Files>(
     alloc: Global,
     files: &mut F,
@@ -170,6 +200,6 @@ pub(crate) fn save_kept<F: Files>(
 ) -> Option<Answer>
     ensures { SavesTo (record { files = F.files files.old; faults = F.faults files.old }) client.now name.now result (record { files = F.files files.new; faults = F.faults files.new }) }
 {
-    let (bytes, replaces) = look(alloc, files, name);
-    save_read(alloc, files, client, name, bytes, replaces)
+    let there = files.has(name);
+    save_there(alloc, files, client, name, there)
 }
