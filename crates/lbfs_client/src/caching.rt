@@ -132,7 +132,8 @@ fn save_where<F: Files>(
     old: &[u8],
     replaces: bool,
 ) -> Option<Answer>
-    ensures { SavesWhere replaces (record { files = F.files files.old; faults = F.faults files.old }) client.now name.now old.now result (record { files = F.files files.new; faults = F.faults files.new }) }
+    ensures { SavesWhere replaces (record { files = F.files files.old; faults = F.faults files.old }) client.now name.now old.now result
+        (record { files = F.files files.new; faults = F.faults files.new }) }
 {
     if replaces {
         save_over(alloc, files, client, name, old)
@@ -151,7 +152,8 @@ fn save_read<F: Files>(
     read: Result<Bytes, FilesError>,
     replaces: bool,
 ) -> Option<Answer>
-    ensures { SavesRead replaces (record { files = F.files files.old; faults = F.faults files.old }) client.now name.now read result (record { files = F.files files.new; faults = F.faults files.new }) }
+    ensures { SavesRead replaces (record { files = F.files files.old; faults = F.faults files.old }) client.now name.now read result
+        (record { files = F.files files.new; faults = F.faults files.new }) }
 {
     match read {
         Ok(bytes) => save_where(alloc, files, client, name, bytes.as_slice(), replaces),
