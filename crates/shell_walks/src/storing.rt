@@ -2,7 +2,8 @@
 
 ghost use Rattle.std.specs.Prelude.{◌≡◌, ◌∷◌, [], false, IfOk, OnErr, bytes_eq};
 ghost use Rattle.command_text.specs.declared.content.Part.TheVariants as part;
-ghost use Rattle.shell_walks.specs.Storing.{is_done, is_closed, made_file, opened_file, failed_as, failure_of, closed_as, left_as, renewed_as, made_as, Replaces, Abandons, AbandonsIf, Stores, StoresIf};
+ghost use Rattle.shell_walks.specs.Storing.{is_done, is_closed, made_file, opened_file, failed_as, failure_of, closed_as, left_as, renewed_as, made_as};
+ghost use Rattle.shell_walks.specs.Storing.{Replaces, Abandons, AbandonsIf, Stores, StoresIf};
 ghost use Rattle.shell_walks.specs.Storing.{RenewsId, RenewsIf};
 ghost use Rattle.shell_walks.specs.Storing.{RenewsSeen, Renews, StoresAt, StoresMade, is_missing, may_store, MakesElse, Makes, StoresChanged, PutsOpen, MakesUnless, Opens, Puts};
 
