@@ -1,5 +1,5 @@
 -- What a command about paths of the server comes to, over what a client does at any command (`asks`): which commands of the client it makes, in which order, and what is told.
-use Rattle.std.specs.Prelude.{◌≡◌, ℕ, ◌+◌, ◌-◌, ◌==◌, ◌<◌, ◌||◌, List, [], ◌∷◌, ◌++◌, get_or, length, take, Bool, true, false, not, codes, if◌then◌else◌}
+use Rattle.std.specs.Prelude.{◌≡◌, ℕ, ◌+◌, ◌-◌, ◌==◌, ◌<◌, ◌&&◌, ◌||◌, List, [], ◌∷◌, ◌++◌, get_or, length, take, Bool, true, false, not, codes, if◌then◌else◌}
 use Rattle.command_text.specs.declared.command.Command.{Command}
 use Rattle.shell_words.specs.Quoting.{quoted}
 use Rattle.shell_words.specs.declared.command.Verb.{Verb}
@@ -217,17 +217,37 @@ pub record Renames {R : Type 0} (asks : R → Command → Answer → R → Type 
   pub asked : AsksOn asks old (rename_of from to) answer between
   pub goes_on : TellsRename asks between (is_refused answer) from to answer told new
 
--- where it isn't known what has the second path nothing is renamed
-abbrev pub MovesIf : {R : Type 0} → (asks : R → Command → Answer → R → Type 0) → R → (is_known : Bool) → (from to : List (List ℕ)) → Answer → Told → R → Type 0
-MovesIf asks old true from to looked told new = Renames asks old from (place_of to from (is_dir_told looked)) told new
-MovesIf asks old false from to looked told new = (new ≡ old) × (told ≡ refused_told to (why_of looked))
+-- the first is at fault where nothing has it, else that no directory has the second
+abbrev pub new_told : (from to : List (List ℕ)) → (looked back : Answer) → Told
+new_told from to looked (answer.Seen seen) = directory_told to looked
+new_told from to looked back = refused_told from (why_of back)
 
--- into the directory that has the second path, where one has it
-pub record Moves {R : Type 0} (asks : R → Command → Answer → R → Type 0) (old : R) (from to : List (List ℕ)) (told : Told) (new : R) : Type 0 where
+abbrev pub RenamesNew : {R : Type 0} → (asks : R → Command → Answer → R → Type 0) → R → (may : Bool) → (from to : List (List ℕ)) → (looked back : Answer) → Told → R → Type 0
+RenamesNew asks old true from to looked back told new = Renames asks old from to told new
+RenamesNew asks old false from to looked back told new = (new ≡ old) × (told ≡ new_told from to looked back)
+
+-- a directory's new name: a directory gets it, and that where nothing has it
+pub record MovesNew {R : Type 0} (asks : R → Command → Answer → R → Type 0) (old : R) (from to : List (List ℕ)) (looked : Answer) (told : Told) (new : R) : Type 0 where
+  pub back : Answer
+  pub between : R
+  pub looks : AsksOn asks old (command_on deed.Look from) back between
+  pub goes_on : RenamesNew asks between (is_dir_told back && is_missing looked) from to looked back told new
+
+abbrev pub MovesAs : {R : Type 0} → (asks : R → Command → Answer → R → Type 0) → R → (is_new_dir : Bool) → (from to : List (List ℕ)) → Answer → Told → R → Type 0
+MovesAs asks old true from to looked told new = MovesNew asks old from to looked told new
+MovesAs asks old false from to looked told new = Renames asks old from (place_of to from (is_dir_told looked)) told new
+
+-- where it isn't known what has the second path nothing is renamed
+abbrev pub MovesIf : {R : Type 0} → (asks : R → Command → Answer → R → Type 0) → R → (is_known wants_dir : Bool) → (from to : List (List ℕ)) → Answer → Told → R → Type 0
+MovesIf asks old true wants from to looked told new = MovesAs asks old (wants && not (is_dir_told looked)) from to looked told new
+MovesIf asks old false wants from to looked told new = (new ≡ old) × (told ≡ refused_told to (why_of looked))
+
+-- into the directory that has the second path, where one has it; one may be wanted there (a slash ends its word)
+pub record Moves {R : Type 0} (asks : R → Command → Answer → R → Type 0) (old : R) (wants_dir : Bool) (from to : List (List ℕ)) (told : Told) (new : R) : Type 0 where
   pub looked : Answer
   pub between : R
   pub looks : AsksOn asks old (command_on deed.Look to) looked between
-  pub goes_on : MovesIf asks between (is_known looked) from to looked told new
+  pub goes_on : MovesIf asks between (is_known looked) wants_dir from to looked told new
 
 -- ---- a command on one path
 

@@ -4,7 +4,7 @@ use Rattle.shell_walks.specs.Telling.{fine, left_text, notes}
 use Rattle.shell_walks.specs.declared.remote.Answer.TheVariants as answer
 use Rattle.shell_walks.specs.declared.remote.Seen.{Seen}
 use Rattle.shell_walks.specs.declared.remote.Why.TheVariants as why
-use Rattle.path_commands.specs.Doing.{directory_told, is_known, way_told, with_left, with_long}
+use Rattle.path_commands.specs.Doing.{directory_told, is_known, new_told, way_told, with_left, with_long}
 
 abbrev a_file : Seen
 a_file = record { id = 5; is_dir = false; version = 2; len = 6 }
@@ -44,3 +44,13 @@ two_are_left = refl
 
 pub none_is_left : with_left 0 (fine (codes "a\n")) ≡ fine (codes "a\n")
 none_is_left = refl
+
+-- a file gets no new name that ends with a slash: no directory has that, or nothing has the first
+pub no_directory_has_it : new_told (codes "f" ∷ []) (codes "nw" ∷ []) (answer.Failed (why.Refused 2)) (answer.Seen a_file) ≡ notes (codes "/nw: no such file or directory\n")
+no_directory_has_it = refl
+
+pub a_file_has_it : new_told (codes "f" ∷ []) (codes "g" ∷ []) (answer.Seen a_file) (answer.Seen a_file) ≡ notes (codes "/g: not a directory\n")
+a_file_has_it = refl
+
+pub nothing_has_the_first : new_told (codes "f" ∷ []) (codes "nw" ∷ []) (answer.Failed (why.Refused 2)) (answer.Failed (why.Refused 2)) ≡ notes (codes "/f: no such file or directory\n")
+nothing_has_the_first = refl

@@ -6,7 +6,7 @@ ghost use Rattle.shell_walks.specs.Telling.{left_text, notes};
 ghost use Rattle.shell_walks.specs.declared.asking.Deed.TheVariants as deeds;
 ghost use Rattle.path_commands.specs.Doing.{Does, Stats, RemovesFile, is_dir_told, is_missing, is_known, made_told, directory_told, file_text, file_told, LooksAt, is_file, ListsFile};
 ghost use Rattle.path_commands.specs.Doing.{with_long, is_answered, with_left, ListsLong, ListsOn, Lists, is_there, MakesAll, way_told, WayIf, LooksAbove, MakesWay};
-ghost use Rattle.path_commands.specs.Doing.{RemovesAll, last_of, named_in, place_of, is_refused, at_fault, LooksBack, TellsRename, Renames, MovesIf, Moves, OnPath};
+ghost use Rattle.path_commands.specs.Doing.{RemovesAll, last_of, named_in, place_of, is_refused, at_fault, LooksBack, TellsRename, Renames, new_told, RenamesNew, MovesNew, MovesAs, MovesIf, Moves, OnPath};
 
 use command_text::path::Path;
 use lb_base::items::{Bytes, Items, Name};
@@ -485,36 +485,116 @@ fn rename<R: Remote>(
     rename_told(alloc, remote, is_refused(&answer), from, to, &answer)
 }
 
+/// What is told where no directory gets a directory's new name.
+fn new_told(
+    alloc: Global,
+    from: &[Name],
+    to: &[Name],
+    looked: &Answer,
+    back: &Answer,
+) -> Result<Told, AllocError>
+    ensures { IfOk result (λ told. told ≡ new_told from.now to.now looked.now back.now) }
+{
+    match back {
+        Answer::Seen(_) => directory_told(alloc, to, looked),
+        back => refused_told(alloc, from, why_of(back)),
+    }
+}
+
+/// It is renamed, where it may be.
+fn rename_new<R: Remote>(
+    alloc: Global,
+    remote: &mut R,
+    may: bool,
+    from: &[Name],
+    to: &[Name],
+    looked: &Answer,
+    back: &Answer,
+) -> Result<Told, AllocError>
+    ensures { IfOk result (λ told. RenamesNew R.asks remote.old may from.now to.now looked.now back.now told remote.new) }
+{
+    if may {
+        rename(alloc, remote, from, to)
+    } else {
+        new_told(alloc, from, to, looked, back)
+    }
+}
+
+/// A directory gets a new name that nothing has. A file gets none that ends with a slash.
+fn move_new<R: Remote>(
+    alloc: Global,
+    remote: &mut R,
+    from: &[Name],
+    to: &[Name],
+    looked: &Answer,
+) -> Result<Told, AllocError>
+    ensures { IfOk result (λ told. MovesNew R.asks remote.old from.now to.now looked.now told remote.new) }
+{
+    let back = ask_on(alloc, remote, Deed::Look, from)?;
+    let may = is_dir_told(&back) && is_missing(looked);
+    rename_new(alloc, remote, may, from, to, looked, &back)
+}
+
+/// It goes into the directory that has the second path, or gets that path.
+fn move_as<R: Remote>(
+    alloc: Global,
+    remote: &mut R,
+    is_new_dir: bool,
+    from: &[Name],
+    to: Path,
+    looked: &Answer,
+) -> Result<Told, AllocError>
+    ensures { IfOk result (λ told. MovesAs R.asks remote.old is_new_dir from.now to looked.now told remote.new) }
+{
+    if is_new_dir {
+        move_new(alloc, remote, from, to.as_slice(), looked)
+    } else {
+        let to = place_of(alloc, to, from, is_dir_told(looked))?;
+        rename(alloc, remote, from, to.as_slice())
+    }
+}
+
 /// What a look at the second path makes of a renaming.
 fn move_if<R: Remote>(
     alloc: Global,
     remote: &mut R,
     is_known: bool,
+    wants_dir: bool,
     from: &[Name],
     to: Path,
     looked: &Answer,
 ) -> Result<Told, AllocError>
-    ensures { IfOk result (λ told. MovesIf R.asks remote.old is_known from.now to looked.now told remote.new) }
+    ensures { IfOk result (λ told. MovesIf R.asks remote.old is_known wants_dir from.now to looked.now told remote.new) }
 {
     if is_known {
-        let to = place_of(alloc, to, from, is_dir_told(looked))?;
-        rename(alloc, remote, from, to.as_slice())
+        let is_new_dir = wants_dir && !is_dir_told(looked);
+        move_as(alloc, remote, is_new_dir, from, to, looked)
     } else {
         refused_told(alloc, to.as_slice(), why_of(looked))
     }
 }
 
-/// `mv`: into the directory that has the second path, where one has it.
+/// `mv`: into the directory that has the second path, where one has it. One may be wanted there: then a file gets
+/// no other name.
 pub fn move_to<R: Remote>(
     alloc: Global,
     remote: &mut R,
+    wants_dir: bool,
     from: &[Name],
     to: Path,
 ) -> Result<Told, AllocError>
-    ensures { IfOk result (λ told. Moves R.asks remote.old from.now to told remote.new) }
+    ensures { IfOk result (λ told. Moves R.asks remote.old wants_dir from.now to told remote.new) }
 {
     let looked = ask_on(alloc, remote, Deed::Look, to.as_slice())?;
-    move_if(alloc, remote, is_known(&looked), from, to, &looked)
+    move_if(
+        alloc,
+        remote,
+        is_known(&looked),
+        wants_dir,
+        from,
+        to,
+        &looked,
+    )
 }
 
 /// A command on one path of the server.

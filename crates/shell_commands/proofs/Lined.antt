@@ -9,7 +9,8 @@ use Rattle.shell_words.specs.declared.command.Verb.TheVariants as verb
 use Rattle.shell_walks.specs.declared.folder.Kind.{Kind}
 use Rattle.shell_walks.specs.declared.remote.Answer.{Answer}
 use Rattle.shell_walks.specs.declared.told.Told.{Told}
-use Rattle.shell_commands.specs.Lines.{DoesPath, MovesTo, MovesTo.mistaken_so, Names, operand_of, RunsAs, RunsNamed, RunsNamed.at_mistake}
+use Rattle.shell_commands.specs.Lines.{DoesPath, MovesTo, MovesTo.mistaken_so, Names, operand_of, RunsAs}
+use Rattle.path_commands.specs.Doing.{Moves}
 use Rattle.shell_commands.specs.Here.{has_word, IsFolderOf, IsFolderOf.before_slash, IsFolderOf.without_slash, LcdIf}
 use Rattle.shell_commands.specs.declared.shell.Named.{Named}
 use Rattle.shell_commands.specs.declared.shell.Named.TheVariants as named
@@ -24,8 +25,8 @@ named_as d dir w word n m e1 e2 e3 k =
 pub mistaken_moves : {R : Type 0} (asks : R → Command → Answer → R → Type 0) (s : R) (dir from : List (List ℕ)) (word : List ℕ) (told : Told) → Names dir word (named.Mistaken told) → MovesTo asks s dir from word told s
 mistaken_moves asks s dir from word told k = mistaken_so k.0 k.1 k.2 refl
 
-pub mistaken_line : {R F : Type 0} (asks : R → Command → Answer → R → Type 0) (content : R → ℕ → List ℕ) (finds : F → Bool → List ℕ → Kind → F → Type 0) (clears : F → List ℕ → F → Type 0) (line : Line) (folder : List ℕ) (dir : List (List ℕ)) (s : R) (h : F) (told : Told) → Names dir (operand_of line 0) (named.Mistaken told) → RunsNamed asks content finds clears line folder dir s h (went.Told told) s h dir
-mistaken_line asks content finds clears line folder dir s h told k = at_mistake k.0 k.1 (ap (λ (t : Told). went.Told t) k.2) refl refl refl
+pub moves_as : {R : Type 0} (asks : R → Command → Answer → R → Type 0) (old new : R) (w wants : Bool) (from to : List (List ℕ)) (told : Told) → w ≡ wants → Moves asks old w from to told new → Moves asks old wants from to told new
+moves_as asks old new w wants from to told e m = subst (λ (x : Bool). Moves asks old x from to told new) e m
 
 pub mv_so : {R F : Type 0} (asks : R → Command → Answer → R → Type 0) (content : R → ℕ → List ℕ) (finds : F → Bool → List ℕ → Kind → F → Type 0) (clears : F → List ℕ → F → Type 0) (v : Verb) (line : Line) (folder : List ℕ) (d dir p path : List (List ℕ)) (word : List ℕ) (old new : R) (h : F) (told : Told) → v ≡ verb.Mv → d ≡ dir → p ≡ path → word ≡ operand_of line 1 → MovesTo asks old d p word told new → DoesPath asks content finds clears v line folder dir path old h (went.Told told) new h dir
 mv_so asks content finds clears v line folder d dir p path word old new h told is e1 e2 e3 m =

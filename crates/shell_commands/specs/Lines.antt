@@ -13,6 +13,7 @@ use Rattle.shell_walks.specs.declared.asking.Deed.TheVariants as deed
 use Rattle.shell_walks.specs.declared.folder.Kind.{Kind}
 use Rattle.shell_walks.specs.declared.folder.LocalFault.TheVariants as fault
 use Rattle.shell_walks.specs.declared.remote.Answer.{Answer}
+use Rattle.shell_walks.specs.declared.remote.Answer.TheVariants as answer
 use Rattle.shell_walks.specs.declared.tasks.Storing.{Storing}
 use Rattle.shell_walks.specs.declared.tasks.Task.TheVariants as task
 use Rattle.shell_walks.specs.declared.told.Told.{Told}
@@ -46,6 +47,40 @@ abbrev pub Names : (dir : List (List ℕ)) → (word : List ℕ) → Named → T
 Names dir word (named.Path path) = path_of dir word ≡ Ok path
 Names dir word (named.Mistaken told) = (m : Mistake) × (path_of dir word ≡ Err m) × (told ≡ mistaken_as word m)
 
+-- ---- a slash at the end of a word: no file has the path
+
+-- `/` names the root, which is there
+abbrev pub has_slash : (word : List ℕ) → Bool
+has_slash word = bytes_eq (drop (length word - 1) word) (codes "/") && not (bytes_eq word (codes "/"))
+
+-- a directory has it, or, unless that is a must, nothing does
+abbrev pub fits_slash : (must : Bool) → Answer → Bool
+fits_slash must (answer.Seen seen) = seen.is_dir
+fits_slash must a = not must && is_known a
+
+abbrev pub slashed_as : (fits : Bool) → (path : List (List ℕ)) → Answer → Named
+slashed_as true path looked = named.Path path
+slashed_as false path looked = named.Mistaken (directory_told path looked)
+
+pub record LooksSlash {R : Type 0} (asks : R → Command → Answer → R → Type 0) (old : R) (must : Bool) (path : List (List ℕ)) (n : Named) (new : R) : Type 0 where
+  pub looked : Answer
+  pub looks : AsksOn asks old (command_on deed.Look path) looked new
+  pub is : n ≡ slashed_as (fits_slash must looked) path looked
+
+abbrev pub SlashIf : {R : Type 0} → (asks : R → Command → Answer → R → Type 0) → R → (has_slash must : Bool) → (path : List (List ℕ)) → Named → R → Type 0
+SlashIf asks old true must path n new = LooksSlash asks old must path n new
+SlashIf asks old false must path n new = (new ≡ old) × (n ≡ named.Path path)
+
+abbrev pub SlashOn : {R : Type 0} → (asks : R → Command → Answer → R → Type 0) → R → (has_slash must : Bool) → (at n : Named) → R → Type 0
+SlashOn asks old slash must (named.Path path) n new = SlashIf asks old slash must path n new
+SlashOn asks old slash must (named.Mistaken told) n new = (new ≡ old) × (n ≡ named.Mistaken told)
+
+-- the path that a word names, by one look where a slash ends it
+pub record NamesAt {R : Type 0} (asks : R → Command → Answer → R → Type 0) (old : R) (dir : List (List ℕ)) (must : Bool) (word : List ℕ) (n : Named) (new : R) : Type 0 where
+  pub at : Named
+  pub names : Names dir word at
+  pub goes_on : SlashOn asks old (has_slash word) must at n new
+
 -- ---- cd: to what is told to be a directory
 
 abbrev pub gone_to : (dir path : List (List ℕ)) → (is_dir : Bool) → List (List ℕ)
@@ -61,7 +96,7 @@ pub record Goes {R : Type 0} (asks : R → Command → Answer → R → Type 0) 
 -- ---- mv: its second path is named by a word, too
 
 pub data MovesTo {R : Type 0} (asks : R → Command → Answer → R → Type 0) (old : R) (dir from : List (List ℕ)) (word : List ℕ) (told : Told) (new : R) : Type 0 where
-  named_so : (to : List (List ℕ)) → path_of dir word ≡ Ok to → Moves asks old from to told new → MovesTo asks old dir from word told new
+  named_so : (to : List (List ℕ)) → path_of dir word ≡ Ok to → Moves asks old (has_slash word) from to told new → MovesTo asks old dir from word told new
   mistaken_so : (m : Mistake) → path_of dir word ≡ Err m → told ≡ mistaken_as word m → new ≡ old → MovesTo asks old dir from word told new
 
 -- ---- get: a task, and the folder that it writes to is cleared
@@ -96,7 +131,7 @@ sync_storing deletes = record { deep = true; changed_only = true; deletes = dele
 
 -- whether a directory is wanted at the path: a slash ends the word, and LOCAL is a file
 abbrev pub wants_dir : (is_folder : Bool) → (word : List ℕ) → Bool
-wants_dir is_folder word = not is_folder && bytes_eq (drop (length word - 1) word) (codes "/")
+wants_dir is_folder word = not is_folder && has_slash word
 
 -- into the directory that has the path, and else at the path
 abbrev pub target_if : (is_dir : Bool) → (path : List (List ℕ)) → (last : List ℕ) → List (List ℕ)
@@ -152,11 +187,12 @@ pub record PutsTo {R : Type 0} (asks : R → Command → Answer → R → Type 0
   pub targets : Targets asks old dir is_folder (operand_of line 1) (last_of (operand_of line 0)) target between
   pub goes_on : Stores asks between local target (put_storing line.has_option) w new
 
--- a sync stores to the path itself; LOCAL itself, where it is a file, takes no directory's place
+-- a sync stores to the path itself; LOCAL itself, where it is a file, takes no directory's place, and no name that ends with a slash
 pub record SyncsTo {R : Type 0} (asks : R → Command → Answer → R → Type 0) (old : R) (dir : List (List ℕ)) (line : Line) (local : List ℕ) (is_folder : Bool) (w : Went) (new : R) : Type 0 where
   pub target : Named
-  pub names : Names dir (operand_of line 1) target
-  pub goes_on : Stores asks old local target (sync_storing (line.has_option && is_folder)) w new
+  pub between : R
+  pub names : NamesAt asks old dir (not is_folder) (operand_of line 1) target between
+  pub goes_on : Stores asks between local target (sync_storing (line.has_option && is_folder)) w new
 
 -- by what LOCAL is here: where it isn't, nothing is asked
 abbrev pub PutsFrom : {R : Type 0} → (asks : R → Command → Answer → R → Type 0) → R → (dir : List (List ℕ)) → Line → Source → Went → R → Type 0
@@ -188,10 +224,16 @@ DoesPath asks content finds clears verb.Get line folder dir path old host w new 
 DoesPath asks content finds clears verb.Mv line folder dir path old host w new host' dir' = (host' ≡ host) × (dir' ≡ dir) × Tells w (λ told. MovesTo asks old dir path (operand_of line 1) told new)
 DoesPath asks content finds clears v line folder dir path old host w new host' dir' = (host' ≡ host) × (dir' ≡ dir) × Tells w (λ told. OnPath asks content old v line.has_option path told new)
 
+abbrev pub DoesNamed : {R F : Type 0} → (asks : R → Command → Answer → R → Type 0) → (content : R → ℕ → List ℕ) → (finds : F → Bool → List ℕ → Kind → F → Type 0) → (clears : F → List ℕ → F → Type 0) → Line → (folder : List ℕ) → (dir : List (List ℕ)) → Named → R → F → Went → R → F → (dir' : List (List ℕ)) → Type 0
+DoesNamed asks content finds clears line folder dir (named.Path path) old host w new host' dir' = DoesPath asks content finds clears line.verb line folder dir path old host w new host' dir'
+DoesNamed asks content finds clears line folder dir (named.Mistaken told) old host w new host' dir' = (w ≡ went.Told told) × (new ≡ old) × (host' ≡ host) × (dir' ≡ dir)
+
 -- a command whose first word is a path of the server
-pub data RunsNamed {R F : Type 0} (asks : R → Command → Answer → R → Type 0) (content : R → ℕ → List ℕ) (finds : F → Bool → List ℕ → Kind → F → Type 0) (clears : F → List ℕ → F → Type 0) (line : Line) (folder : List ℕ) (dir : List (List ℕ)) (old : R) (host : F) (w : Went) (new : R) (host' : F) (dir' : List (List ℕ)) : Type 0 where
-  at_path : (path : List (List ℕ)) → path_of dir (operand_of line 0) ≡ Ok path → DoesPath asks content finds clears line.verb line folder dir path old host w new host' dir' → RunsNamed asks content finds clears line folder dir old host w new host' dir'
-  at_mistake : (m : Mistake) → path_of dir (operand_of line 0) ≡ Err m → w ≡ went.Told (mistaken_as (operand_of line 0) m) → new ≡ old → host' ≡ host → dir' ≡ dir → RunsNamed asks content finds clears line folder dir old host w new host' dir'
+pub record RunsNamed {R F : Type 0} (asks : R → Command → Answer → R → Type 0) (content : R → ℕ → List ℕ) (finds : F → Bool → List ℕ → Kind → F → Type 0) (clears : F → List ℕ → F → Type 0) (line : Line) (folder : List ℕ) (dir : List (List ℕ)) (old : R) (host : F) (w : Went) (new : R) (host' : F) (dir' : List (List ℕ)) : Type 0 where
+  pub at : Named
+  pub between : R
+  pub names : NamesAt asks old dir false (operand_of line 0) at between
+  pub goes_on : DoesNamed asks content finds clears line folder dir at between host w new host' dir'
 
 abbrev pub RunsAs : {R F : Type 0} → (asks : R → Command → Answer → R → Type 0) → (content : R → ℕ → List ℕ) → (finds : F → Bool → List ℕ → Kind → F → Type 0) → (clears : F → List ℕ → F → Type 0) → Verb → Line → (here : Option (List ℕ)) → (folder : List ℕ) → (dir : List (List ℕ)) → R → F → Went → R → F → (folder' : List ℕ) → (dir' : List (List ℕ)) → Type 0
 RunsAs asks content finds clears verb.Pwd line here folder dir old host w new host' folder' dir' = (w ≡ went.Told (fine (path_text dir ++ codes "\n"))) × (new ≡ old) × (host' ≡ host) × (dir' ≡ dir)

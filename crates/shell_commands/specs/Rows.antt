@@ -1,13 +1,14 @@
 -- Worked rows of what a line's words name, and of what tasks come to.
-use Rattle.std.specs.Prelude.{◌≡◌, [], ◌∷◌, true, false, Some, None, codes, refl}
+use Rattle.std.specs.Prelude.{◌≡◌, [], ◌∷◌, Bool, true, false, Some, None, codes, refl}
 use Rattle.shell_walks.specs.declared.folder.Kind.TheVariants as kind
 use Rattle.shell_walks.specs.declared.folder.LocalFault.TheVariants as fault
+use Rattle.shell_walks.specs.declared.remote.Answer.{Answer}
 use Rattle.shell_walks.specs.declared.remote.Answer.TheVariants as answer
 use Rattle.shell_walks.specs.declared.remote.Why.TheVariants as why
 use Rattle.shell_walks.specs.declared.tasks.Storing.{Storing}
 use Rattle.shell_walks.specs.declared.tasks.Task.TheVariants as task
 use Rattle.shell_commands.specs.Here.{got_as, is_into, local_in, name_got, plain, source_as}
-use Rattle.shell_commands.specs.Lines.{is_fit, target_as, wants_dir}
+use Rattle.shell_commands.specs.Lines.{fits_slash, has_slash, is_fit, slashed_as, target_as, wants_dir}
 use Rattle.shell_commands.specs.Putting.{again_if, in_known, in_listed, stored_as}
 use Rattle.shell_commands.specs.Visiting.{removed_as}
 use Rattle.shell_commands.specs.declared.here.NamedLocal.TheVariants as namedlocal
@@ -93,3 +94,36 @@ no_directory = refl
 
 pub no_slash_behind : target_as (is_fit false (answer.Failed (why.Refused 2))) (codes "nw" ∷ []) (codes "f") (answer.Failed (why.Refused 2)) ≡ named.Path (codes "nw" ∷ [])
 no_slash_behind = refl
+
+-- ---- a slash at the end of a word
+
+pub it_ends_so : has_slash (codes "m/two/") ≡ true
+it_ends_so = refl
+
+pub it_ends_otherwise : has_slash (codes "m/two") ≡ false
+it_ends_otherwise = refl
+
+pub the_root_is_there : has_slash (codes "/") ≡ false
+the_root_is_there = refl
+
+pub no_word : has_slash [] ≡ false
+no_word = refl
+
+abbrev a_thing : (is_dir : Bool) → Answer
+a_thing d = answer.Seen (record { id = 5; is_dir = d; version = 2; len = 6 })
+
+pub a_directory_has_it : slashed_as (fits_slash true (a_thing true)) (codes "d" ∷ []) (a_thing true) ≡ named.Path (codes "d" ∷ [])
+a_directory_has_it = refl
+
+pub a_file_has_it : slashed_as (fits_slash false (a_thing false)) (codes "f" ∷ []) (a_thing false) ≡ named.Mistaken (record { text = []; note = codes "/f: not a directory\n" })
+a_file_has_it = refl
+
+-- a mkdir makes it, and a file that a sync stores gets no such name
+pub nothing_has_it : slashed_as (fits_slash false (answer.Failed (why.Refused 2))) (codes "nw" ∷ []) (answer.Failed (why.Refused 2)) ≡ named.Path (codes "nw" ∷ [])
+nothing_has_it = refl
+
+pub a_file_is_no_directory : slashed_as (fits_slash true (answer.Failed (why.Refused 2))) (codes "nw" ∷ []) (answer.Failed (why.Refused 2)) ≡ named.Mistaken (record { text = []; note = codes "/nw: no such file or directory\n" })
+a_file_is_no_directory = refl
+
+pub the_look_is_lost : fits_slash false (answer.Failed why.Cut) ≡ false
+the_look_is_lost = refl

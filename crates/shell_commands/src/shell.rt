@@ -5,9 +5,9 @@ ghost use Rattle.std.specs.Prelude.{◌≡◌, ◌++◌, codes, IfOk, OnOk};
 ghost use Rattle.shell_words.specs.Paths.{above};
 ghost use Rattle.shell_walks.specs.Telling.{fine, path_text};
 ghost use Rattle.shell_commands.specs.Here.{IsFolderOf, is_name_here, name_got};
-ghost use Rattle.shell_commands.specs.Lines.{mistaken_as, operand_of, Names, gone_to, Goes, MovesTo, GetsInto, Gets, name_into, GetsIf, put_storing, sync_storing};
+ghost use Rattle.shell_commands.specs.Lines.{mistaken_as, operand_of, Names, has_slash, fits_slash, slashed_as, LooksSlash, SlashIf, NamesAt, gone_to, Goes, MovesTo, GetsInto, Gets, name_into, GetsIf, put_storing, sync_storing};
 ghost use Rattle.shell_commands.specs.Lines.{wants_dir, target_if, is_fit, target_as, LooksTarget, TargetsIf, Targets, task_as, StoresTo, Stores};
-ghost use Rattle.shell_commands.specs.Lines.{PutsTo, SyncsTo, PutsFrom, SyncsFrom, RunsPut, RunsSync, DoesPath, RunsNamed, Runs, KeepsFolder, StandsFirst};
+ghost use Rattle.shell_commands.specs.Lines.{PutsTo, SyncsTo, PutsFrom, SyncsFrom, RunsPut, RunsSync, DoesPath, DoesNamed, RunsNamed, Runs, KeepsFolder, StandsFirst};
 
 use crate::here::{
     NamedLocal, Source, find_source, got, has_word, is_name_here, lcd, name_below, name_got,
@@ -85,6 +85,81 @@ fn path_named(alloc: Global, dir: &[Name], word: &[u8]) -> Result<Named, AllocEr
     }
 }
 
+/// Whether a slash ends a word, other than the root's.
+fn has_slash(word: &[u8]) -> bool
+    ensures { result ≡ has_slash word.now }
+{
+    is(&word[word.len().saturating_sub(1)..], b"/") && !is(word, b"/")
+}
+
+/// Whether what a look told may have a path whose word ends with a slash.
+fn fits_slash(must: bool, looked: &Answer) -> bool
+    ensures { result ≡ fits_slash must looked.now }
+{
+    match looked {
+        Answer::Seen(seen) => seen.is_dir,
+        looked => !must && is_known(looked),
+    }
+}
+
+/// The path by what a look told.
+fn slashed_as(alloc: Global, fits: bool, path: Path, looked: &Answer) -> Result<Named, AllocError>
+    ensures { IfOk result (λ n. n ≡ slashed_as fits path looked.now) }
+{
+    if fits {
+        Ok(Named::Path(path))
+    } else {
+        let told = directory_told(alloc, path.as_slice(), looked)?;
+        Ok(Named::Mistaken(told))
+    }
+}
+
+/// What stands at a path whose word ends with a slash is looked at.
+fn look_slash<R: Remote>(
+    alloc: Global,
+    remote: &mut R,
+    must: bool,
+    path: Path,
+) -> Result<Named, AllocError>
+    ensures { IfOk result (λ n. LooksSlash R.asks remote.old must path n remote.new) }
+{
+    let looked = ask_on(alloc, remote, Deed::Look, path.as_slice())?;
+    slashed_as(alloc, fits_slash(must, &looked), path, &looked)
+}
+
+/// The same, where a slash ends the word.
+fn slash_if<R: Remote>(
+    alloc: Global,
+    remote: &mut R,
+    has_slash: bool,
+    must: bool,
+    path: Path,
+) -> Result<Named, AllocError>
+    ensures { IfOk result (λ n. SlashIf R.asks remote.old has_slash must path n remote.new) }
+{
+    if has_slash {
+        look_slash(alloc, remote, must, path)
+    } else {
+        Ok(Named::Path(path))
+    }
+}
+
+/// The path that a word names: where a slash ends it no file has that, and where it must be a directory does.
+fn name_at<R: Remote>(
+    alloc: Global,
+    remote: &mut R,
+    dir: &[Name],
+    must: bool,
+    word: &[u8],
+) -> Result<Named, AllocError>
+    ensures { IfOk result (λ n. NamesAt R.asks remote.old dir.now must word.now n remote.new) }
+{
+    match path_named(alloc, dir, word)? {
+        Named::Path(path) => slash_if(alloc, remote, has_slash(word), must, path),
+        Named::Mistaken(told) => Ok(Named::Mistaken(told)),
+    }
+}
+
 /// The directory in which it stands then.
 fn go_to(dir: &mut Path, path: Path, is_dir: bool)
     ensures { dir.new ≡ gone_to dir.old path is_dir }
@@ -120,7 +195,7 @@ fn move_named<R: Remote>(
     ensures { IfOk result (λ told. MovesTo R.asks remote.old dir.now from.now word.now told remote.new) }
 {
     match path_named(alloc, dir, word)? {
-        Named::Path(to) => move_to(alloc, remote, from, to),
+        Named::Path(to) => move_to(alloc, remote, has_slash(word), from, to),
         Named::Mistaken(told) => Ok(told),
     }
 }
@@ -139,7 +214,7 @@ fn folder_of(path: &str) -> &str
 fn wants_dir(is_folder: bool, word: &[u8]) -> bool
     ensures { result ≡ wants_dir is_folder word.now }
 {
-    !is_folder && is(&word[word.len().saturating_sub(1)..], b"/")
+    !is_folder && has_slash(word)
 }
 
 /// The path that something is stored to: in a directory, under its own name, and else at the path.
@@ -365,7 +440,7 @@ fn sync_to<R: Remote>(
 ) -> Result<Went, AllocError>
     ensures { IfOk result (λ w. SyncsTo R.asks remote.old dir.now line.now local is_folder w remote.new) }
 {
-    let target = path_named(alloc, dir, operand(line, 1))?;
+    let target = name_at(alloc, remote, dir, !is_folder, operand(line, 1))?;
     stores(
         alloc,
         remote,
@@ -548,6 +623,25 @@ impl Shell {
         }
     }
 
+    /// The same, where a word names the path.
+    fn run_at<R: Remote, F: Folder>(
+        &mut self,
+        alloc: Global,
+        remote: &mut R,
+        host: &mut F,
+        line: &Line,
+        at: Named,
+    ) -> Result<Went, AllocError>
+        ensures does { IfOk result (λ w. DoesNamed R.asks R.content F.finds F.clears line.now self.old.folder self.old.dir at remote.old host.old w remote.new host.new self.new.dir) }
+        ensures folder { self.new.folder ≡ self.old.folder }
+        ensures here { self.new.here ≡ self.old.here }
+    {
+        match at {
+            Named::Path(path) => self.run_on(alloc, remote, host, line, path),
+            Named::Mistaken(told) => Ok(Went::Told(told)),
+        }
+    }
+
     /// A command whose first word is a path of the server.
     fn run_named<R: Remote, F: Folder>(
         &mut self,
@@ -560,10 +654,8 @@ impl Shell {
         ensures folder { self.new.folder ≡ self.old.folder }
         ensures here { self.new.here ≡ self.old.here }
     {
-        match path_named(alloc, self.dir.as_slice(), operand(line, 0))? {
-            Named::Path(path) => self.run_on(alloc, remote, host, line, path),
-            Named::Mistaken(told) => Ok(Went::Told(told)),
-        }
+        let at = name_at(alloc, remote, self.dir.as_slice(), false, operand(line, 0))?;
+        self.run_at(alloc, remote, host, line, at)
     }
 
     /// Runs a line. `help` isn't a command of a tree: it is told as `bye` is, by whoever calls.
