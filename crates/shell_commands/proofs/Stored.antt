@@ -39,13 +39,13 @@ again_comes : (local : List ℕ) (path : List (List ℕ)) (s : Storing) (b : Boo
 again_comes local path s true e = (inl (refl, refl, e, refl), tt)
 again_comes local path s false e = tt
 
-else_fine : {R : Type 0} (asks : R → Command → Answer → R → Type 0) (old new : R) (local : List ℕ) (path : List (List ℕ)) (s : Storing) (a : Answer) (v : Visited) (b : Bool) → (s.deletes && is_dir a) ≡ b → PutsElse asks old b local path s a v new → Fine (task.Put local path s) v
-else_fine asks old new local path s a v true e k = fine_as (task.Put local path s) v _ k.is_told (again_comes local path s (length k.gone.said.note == 0) (and_left s.deletes (is_dir a) e)) refl
+else_fine : {R : Type 0} (asks : R → Command → Answer → R → Type 0) (old new : R) (local : List ℕ) (path : List (List ℕ)) (s : Storing) (a : Answer) (v : Visited) (b : Bool) → (s.deletes && (s.inner && is_dir a)) ≡ b → PutsElse asks old b local path s a v new → Fine (task.Put local path s) v
+else_fine asks old new local path s a v true e k = fine_as (task.Put local path s) v _ k.is_told (again_comes local path s (length k.gone.said.note == 0) (and_left s.deletes (s.inner && is_dir a) e)) refl
 else_fine asks old new local path s a v false e k = fine_as (task.Put local path s) v _ k.1 tt refl
 
 after_comes : {R : Type 0} (asks : R → Command → Answer → R → Type 0) (old new : R) (local : List ℕ) (path : List (List ℕ)) (s : Storing) (n : ℕ) (a : Answer) (v : Visited) (b : Bool) → PutsAfter asks old b local path s n a v new → AllCome (task.Put local path s) v.more
 after_comes asks old new local path s n a v true k = subst (λ (x : Visited). AllCome (task.Put local path s) x.more) (sym k.1) tt
-after_comes asks old new local path s n a v false k = (else_fine asks old new local path s a v (s.deletes && is_dir a) refl k).0
+after_comes asks old new local path s n a v false k = (else_fine asks old new local path s a v (s.deletes && (s.inner && is_dir a)) refl k).0
 
 read_comes : {R : Type 0} (asks : R → Command → Answer → R → Type 0) (content : R → ℕ → List ℕ) (offers : R → List ℕ → R → Type 0) (old new : R) (local : List ℕ) (path : List (List ℕ)) (s : Storing) (v : Visited) (r : Result (List ℕ) LocalFault) → PutsIfRead asks content offers old local path s r v new → AllCome (task.Put local path s) v.more
 read_comes asks content offers old new local path s v (Ok bytes) k = after_comes asks k.between new local path s (length bytes) k.answer v (is_kept s k.answer) k.goes_on
@@ -92,7 +92,7 @@ kind_comes asks content offers reads lists old new h h' local path s v (kinds.Hi
 
 after_counts : {R F : Type 0} (asks : R → Command → Answer → R → Type 0) (content : R → ℕ → List ℕ) (offers : R → List ℕ → R → Type 0) (reads : F → List ℕ → Result (List ℕ) LocalFault → F → Type 0) (old mid new : R) (h h' : F) (local : List ℕ) (path : List (List ℕ)) (s : Storing) (bytes : List ℕ) (a : Answer) (v : Visited) (b : Bool) → is_kept s a ≡ b → reads h local (Ok bytes) h' → PutsBytes asks content offers old path s bytes a mid → PutsAfter asks mid b local path s (length bytes) a v new → CountsPut asks content offers reads old local path s v.files new
 after_counts {R = R} asks content offers reads old mid new h h' local path s bytes a v true e r p k = read h h' (was_read bytes r (kept a (subst (λ (x : R). PutsBytes asks content offers old path s bytes a x) (sym k.0) p) e (ap (λ (x : Visited). x.files) k.1)))
-after_counts asks content offers reads old mid new h h' local path s bytes a v false e r p k = not_read (else_fine asks mid new local path s a v (s.deletes && is_dir a) refl k).1
+after_counts asks content offers reads old mid new h h' local path s bytes a v false e r p k = not_read (else_fine asks mid new local path s a v (s.deletes && (s.inner && is_dir a)) refl k).1
 
 read_counts : {R F : Type 0} (asks : R → Command → Answer → R → Type 0) (content : R → ℕ → List ℕ) (offers : R → List ℕ → R → Type 0) (reads : F → List ℕ → Result (List ℕ) LocalFault → F → Type 0) (old new : R) (h h' : F) (local : List ℕ) (path : List (List ℕ)) (s : Storing) (v : Visited) (r : Result (List ℕ) LocalFault) → reads h local r h' → PutsIfRead asks content offers old local path s r v new → CountsPut asks content offers reads old local path s v.files new
 read_counts asks content offers reads old new h h' local path s v (Ok bytes) r k = after_counts asks content offers reads old k.between new h h' local path s bytes k.answer v (is_kept s k.answer) refl r k.puts k.goes_on
@@ -108,13 +108,13 @@ kind_counts asks content offers reads lists old new h h' local path s v (kinds.H
 
 -- ---- what stays
 
-else_asks : {R : Type 0} (asks : R → Command → Answer → R → Type 0) (old new : R) (local : List ℕ) (path : List (List ℕ)) (s : Storing) (a : Answer) (v : Visited) (b : Bool) → s.deletes ≡ false → (s.deletes && is_dir a) ≡ b → PutsElse asks old b local path s a v new → new ≡ old
-else_asks asks old new local path s a v true spared e k = absurd (apart (sym (and_left s.deletes (is_dir a) e) ∙ spared))
+else_asks : {R : Type 0} (asks : R → Command → Answer → R → Type 0) (old new : R) (local : List ℕ) (path : List (List ℕ)) (s : Storing) (a : Answer) (v : Visited) (b : Bool) → s.deletes ≡ false → (s.deletes && (s.inner && is_dir a)) ≡ b → PutsElse asks old b local path s a v new → new ≡ old
+else_asks asks old new local path s a v true spared e k = absurd (apart (sym (and_left s.deletes (s.inner && is_dir a) e) ∙ spared))
 else_asks asks old new local path s a v false spared e k = k.0
 
 after_asks : {R : Type 0} (asks : R → Command → Answer → R → Type 0) (old new : R) (local : List ℕ) (path : List (List ℕ)) (s : Storing) (n : ℕ) (a : Answer) (v : Visited) (b : Bool) → s.deletes ≡ false → PutsAfter asks old b local path s n a v new → new ≡ old
 after_asks asks old new local path s n a v true spared k = k.0
-after_asks asks old new local path s n a v false spared k = else_asks asks old new local path s a v (s.deletes && is_dir a) spared refl k
+after_asks asks old new local path s n a v false spared k = else_asks asks old new local path s a v (s.deletes && (s.inner && is_dir a)) spared refl k
 
 read_spares : {R : Type 0} (asks : R → Command → Answer → R → Type 0) (content : R → ℕ → List ℕ) (offers : R → List ℕ → R → Type 0) (old new : R) (local : List ℕ) (path : List (List ℕ)) (s : Storing) (v : Visited) (r : Result (List ℕ) LocalFault) → s.deletes ≡ false → PutsIfRead asks content offers old local path s r v new → SparesPut asks content offers old path s new
 read_spares {R = R} asks content offers old new local path s v (Ok bytes) spared k = stores bytes (k.answer, subst (λ (x : R). PutsBytes asks content offers old path s bytes k.answer x) (sym (after_asks asks k.between new local path s (length bytes) k.answer v (is_kept s k.answer) spared k.goes_on)) k.puts)

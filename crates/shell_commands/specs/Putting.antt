@@ -54,7 +54,7 @@ PutsElse asks old false local path s a v new = (new ≡ old) × (v ≡ said_of p
 
 abbrev pub PutsAfter : {R : Type 0} → (asks : R → Command → Answer → R → Type 0) → R → (is_kept : Bool) → (local : List ℕ) → (path : List (List ℕ)) → Storing → ℕ → Answer → Visited → R → Type 0
 PutsAfter asks old true local path s n a v new = (new ≡ old) × (v ≡ stored_as path (is_closed a && s.changed_only) n)
-PutsAfter asks old false local path s n a v new = PutsElse asks old (s.deletes && is_dir a) local path s a v new
+PutsAfter asks old false local path s n a v new = PutsElse asks old (s.deletes && (s.inner && is_dir a)) local path s a v new
 
 -- bytes go to the path, or why not is said; but a directory may go for them
 pub record PutsRead {R : Type 0} (asks : R → Command → Answer → R → Type 0) (content : R → ℕ → List ℕ) (offers : R → List ℕ → R → Type 0) (old : R) (local : List ℕ) (path : List (List ℕ)) (s : Storing) (bytes : List ℕ) (v : Visited) (new : R) : Type 0 where

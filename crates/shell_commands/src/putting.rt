@@ -181,11 +181,12 @@ fn put_else<R: Remote>(
     }
 }
 
-/// Whether what stands in the place of a file goes.
+/// Whether what stands in the place of a file goes. What the words name was a folder, so a file that is there now takes
+/// no directory's place.
 fn may_go(storing: Storing, answer: &Answer) -> bool
-    ensures { result ≡ (storing.deletes && is_dir answer.now) }
+    ensures { result ≡ (storing.deletes && (storing.inner && is_dir answer.now)) }
 {
-    storing.deletes && is_dir(answer)
+    storing.deletes && storing.inner && is_dir(answer)
 }
 
 /// Whether it is said that a file was stored.
