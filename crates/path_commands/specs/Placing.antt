@@ -67,6 +67,7 @@ is_in_the_way p = false
 
 abbrev pub instead_as : Place → Place
 instead_as place.New = place.Instead
+instead_as (place.None w) = place.Gone w
 instead_as p = p
 
 pub record MakesAgain {R : Type 0} (asks : R → Command → Answer → R → Type 0) (old : R) (path : List (List ℕ)) (p : Place) (new : R) : Type 0 where
@@ -102,6 +103,7 @@ pub record PlacesOver {R : Type 0} (asks : R → Command → Answer → R → Ty
 -- why there is none, if there is none
 abbrev pub no_place : Place → Option Why
 no_place (place.None w) = Some w
+no_place (place.Gone w) = Some w
 no_place p = None
 
 abbrev pub is_new : Place → Bool
@@ -111,6 +113,7 @@ is_new p = true
 abbrev pub made_news : (path : List (List ℕ)) → Place → List ℕ
 made_news path place.New = note_line (path_text path) (codes "made")
 made_news path place.Instead = note_line (path_text path) (codes "removed") ++ note_line (path_text path) (codes "made")
+made_news path (place.Gone w) = note_line (path_text path) (codes "removed")
 made_news path p = []
 
 -- a sync says it

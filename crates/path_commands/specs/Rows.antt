@@ -4,6 +4,8 @@ use Rattle.shell_walks.specs.Telling.{fine, left_text, notes}
 use Rattle.shell_walks.specs.declared.remote.Answer.TheVariants as answer
 use Rattle.shell_walks.specs.declared.remote.Seen.{Seen}
 use Rattle.shell_walks.specs.declared.remote.Why.TheVariants as why
+use Rattle.path_commands.specs.Placing.{instead_as, made_news}
+use Rattle.path_commands.specs.declared.placing.Place.TheVariants as place
 use Rattle.path_commands.specs.Doing.{directory_told, is_known, new_told, way_told, with_left, with_long}
 
 abbrev a_file : Seen
@@ -54,3 +56,7 @@ a_file_has_it = refl
 
 pub nothing_has_the_first : new_told (codes "f" ∷ []) (codes "nw" ∷ []) (answer.Failed (why.Refused 2)) (answer.Failed (why.Refused 2)) ≡ notes (codes "/f: no such file or directory\n")
 nothing_has_the_first = refl
+
+-- a file went for a directory that then isn't made
+pub the_file_went : made_news (codes "d" ∷ []) (instead_as (place.None why.NoLink)) ≡ codes "/d: removed\n"
+the_file_went = refl

@@ -24,6 +24,8 @@ pub enum Place {
     Instead,
     There,
     None(Why),
+    /// None, though a file went for it.
+    Gone(Why),
 }
 
 /// What stands where a directory can't be made.
@@ -116,12 +118,13 @@ fn may_go(place: Place, deletes: bool) -> bool
     is_in_the_way(place) && deletes
 }
 
-/// A directory that is new is in the place of a file that went.
+/// A directory that is new is in the place of a file that went, and where there is none the file still went.
 fn instead_as(place: Place) -> Place
     ensures { result ≡ instead_as place }
 {
     match place {
         Place::New => Place::Instead,
+        Place::None(why) => Place::Gone(why),
         place => place,
     }
 }
@@ -212,7 +215,7 @@ pub fn no_place(place: Place) -> Option<Why>
     ensures { result ≡ no_place place }
 {
     match place {
-        Place::None(why) => Some(why),
+        Place::None(why) | Place::Gone(why) => Some(why),
         _ => None,
     }
 }
@@ -234,13 +237,14 @@ fn instead_news(alloc: Global, path: &[Name]) -> Result<Bytes, AllocError>
     Ok(news)
 }
 
-/// What is said of a directory that was made.
+/// What is said of a directory that was made, and of a file that went.
 fn made_news(alloc: Global, path: &[Name], place: Place) -> Result<Bytes, AllocError>
     ensures { IfOk result (λ news. news ≡ made_news path.now place) }
 {
     match place {
         Place::New => path_line(alloc, path, MADE),
         Place::Instead => instead_news(alloc, path),
+        Place::Gone(_) => path_line(alloc, path, REMOVED),
         _ => Ok(Items::new(alloc)),
     }
 }

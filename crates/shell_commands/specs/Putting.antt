@@ -125,8 +125,12 @@ placed s fresh = record s { fresh = fresh; inner = true }
 abbrev pub PutsInto : {R : Type 0} → (asks : R → Command → Answer → R → Type 0) → R → Storing → (local : List ℕ) → (path : List (List ℕ)) → (names : List (List ℕ)) → (news : List ℕ) → Visited → R → Type 0
 PutsInto asks old s local path names news v new = PutsWithin asks old (is_compared s) local path s names news v new
 
+-- where there is none, a file may still have gone
+abbrev pub with_news : (news : List ℕ) → Visited → Visited
+with_news news v = record v { news = news }
+
 abbrev pub PutsPlaced : {R : Type 0} → (asks : R → Command → Answer → R → Type 0) → R → Option Why → Place → (local : List ℕ) → (path : List (List ℕ)) → Storing → (names : List (List ℕ)) → Visited → R → Type 0
-PutsPlaced asks old (Some w) p local path s names v new = (new ≡ old) × (v ≡ refused_as path w)
+PutsPlaced asks old (Some w) p local path s names v new = (new ≡ old) × (v ≡ with_news (place_news path s.changed_only p) (refused_as path w))
 PutsPlaced asks old None p local path s names v new = PutsInto asks old (placed s (is_new p)) local path names (place_news path s.changed_only p) v new
 
 -- its directory is made, unless it is there; a file may go for it

@@ -7,7 +7,7 @@ ghost use Rattle.shell_walks.specs.Telling.{is_dir, is_off, unstored_text, why_o
 ghost use Rattle.path_commands.specs.Placing.{no_place};
 ghost use Rattle.shell_commands.specs.Putting.{again_if, in_known, in_listed, in_unknown, in_unlisted, inner, is_relisted, once_more, placed, stored_as, stored_news, unlisted_note, with_removals};
 ghost use Rattle.shell_commands.specs.Putting.{Puts, PutsAfter, PutsAt, PutsCompared, PutsDeep, PutsElse, PutsFile, PutsFolder, PutsInto, PutsKind, PutsNames};
-ghost use Rattle.shell_commands.specs.Putting.{PutsOver, PutsPlaced, PutsRead, PutsUnless, PutsWithin};
+ghost use Rattle.shell_commands.specs.Putting.{PutsOver, PutsPlaced, PutsRead, PutsUnless, PutsWithin, with_news};
 ghost use Rattle.shell_commands.specs.Visiting.{AllCome, CountsPut, said_of, SparesPut, Touches};
 ghost use Rattle.shell_walks.specs.declared.tasks.Task.TheVariants as tasks;
 
@@ -403,6 +403,15 @@ fn placed(storing: Storing, is_new: bool) -> Storing
     }
 }
 
+/// What was done is said with it.
+fn with_news(news: Bytes, visited: Visited) -> Visited
+    ensures { result ≡ with_news news visited }
+{
+    let mut visited = visited;
+    visited.news = news;
+    visited
+}
+
 /// What is in a folder is to be stored, or why there is no directory for it is said.
 fn put_placed<R: Remote>(
     alloc: Global,
@@ -415,10 +424,10 @@ fn put_placed<R: Remote>(
 ) -> Result<Visited, AllocError>
     ensures { IfOk result (λ v. PutsPlaced R.asks remote.old (no_place place) place local.now path.now storing names.now v remote.new) }
 {
+    let news = place_news(alloc, path, storing.changed_only, place)?;
     match no_place(place) {
-        Some(why) => refused(alloc, path, why),
+        Some(why) => Ok(with_news(news, refused(alloc, path, why)?)),
         None => {
-            let news = place_news(alloc, path, storing.changed_only, place)?;
             let within = placed(storing, is_new(place));
             put_into(alloc, remote, within, local, path, names, news)
         }
