@@ -60,10 +60,12 @@ fn fault_of(error: &io::Error) -> LocalFault {
     }
 }
 
-/// Why a file wasn't written: what wasn't found as it was made is its folder.
+/// Why a file wasn't written: what wasn't found as it was made is its folder, and what was there already isn't the
+/// file, but each name beside it.
 fn unwritten(error: &io::Error) -> LocalFault {
     match fault_of(error) {
         LocalFault::Missing => LocalFault::NoFolder,
+        LocalFault::Exists => LocalFault::Failed,
         fault => fault,
     }
 }
@@ -109,12 +111,30 @@ fn target_at<R: HostDisk>(
     }
 }
 
-/// What a path stands for at which nothing was found: where links are followed, one may lead there.
+/// What is replaced by what is fetched. The cache file isn't: behind the last line it would be written over that.
+fn fetched_at<R: HostDisk>(
+    rt: &R,
+    alloc: Global,
+    path: &str,
+    cache: Option<&str>,
+) -> Result<Target, LocalFault> {
+    let target = target_at(rt, alloc, path, cache)?;
+    match cache {
+        Some(cache) if target.is_at(rt, alloc, cache) => Err(LocalFault::BadName),
+        _ => Ok(target),
+    }
+}
+
+/// What a path stands for at which nothing was found: where links are followed, one may lead there. What can't be
+/// looked at may be one.
 fn missing_kind<R: HostDisk>(rt: &R, path: &str, follows: bool) -> Kind {
-    if follows && rt.symlink_metadata(path).is_ok() {
-        Kind::Hidden(LocalFault::Nowhere)
-    } else {
-        Kind::Missing
+    if !follows {
+        return Kind::Missing;
+    }
+    match rt.symlink_metadata(path) {
+        Ok(_) => Kind::Hidden(LocalFault::Nowhere),
+        Err(error) if error.kind() != ErrorKind::NotFound => Kind::Hidden(fault_of(&error)),
+        Err(_) => Kind::Missing,
     }
 }
 
@@ -239,7 +259,7 @@ impl<'a, R: HostDisk + HostTime + Eprint> Folder for HostFolder<'a, R> {
     }
 
     fn try_write(&mut self, alloc: Global, path: &str) -> Result<(), LocalFault> {
-        let target = target_at(&self.rt, alloc, path, self.cache)?;
+        let target = fetched_at(&self.rt, alloc, path, self.cache)?;
         let shell = Writer::Shell(self.mark);
         match make_beside(&self.rt, alloc, &target, shell, &mut self.number) {
             Ok((beside, file)) => {

@@ -55,6 +55,15 @@ pub(crate) enum Untaken {
     Failed(io::Error),
 }
 
+/// What is found at a path that leads to nothing: a link, or nothing. What can't be looked at may be a link.
+fn missing_at<R: HostDisk>(rt: &R, path: &str) -> Result<Option<Metadata>, Untaken> {
+    match rt.symlink_metadata(path) {
+        Ok(_) => Err(Untaken::Nowhere),
+        Err(why) if why.kind() != ErrorKind::NotFound => Err(Untaken::Failed(why)),
+        Err(_) => Ok(None),
+    }
+}
+
 /// What stands at a path and is replaced; nothing where nothing is there. A symbolic link is what it leads to, and
 /// one that leads to nothing isn't replaced.
 fn found_at<R: HostDisk>(rt: &R, path: &str) -> Result<Option<Metadata>, Untaken> {
@@ -63,8 +72,7 @@ fn found_at<R: HostDisk>(rt: &R, path: &str) -> Result<Option<Metadata>, Untaken
         Ok(facts) if facts.is_file() => Ok(Some(facts)),
         Ok(_) => Err(Untaken::Odd),
         Err(why) if why.kind() != ErrorKind::NotFound => Err(Untaken::Failed(why)),
-        Err(_) if rt.symlink_metadata(path).is_ok() => Err(Untaken::Nowhere),
-        Err(_) => Ok(None),
+        Err(_) => missing_at(rt, path),
     }
 }
 
@@ -109,7 +117,32 @@ pub(crate) fn target_of<R: HostDisk>(
     }
 }
 
+/// The path of what a name stands for, through its folder: two names of one file have one such path.
+fn place_of<R: HostDisk>(rt: &R, alloc: Global, path: &str) -> io::Result<String> {
+    let (folder, name) = match path.rsplit_once('/') {
+        Some(("", name)) => ("/", name),
+        Some((folder, name)) => (folder, name),
+        None => (".", path),
+    };
+    let mut place = rt.canonicalize(alloc, folder)?.into_string();
+    place.push_str("/")?;
+    place.push_str(name)?;
+    Ok(place)
+}
+
 impl Target {
+    /// Whether it is what this path leads to, by whatever names. Where that can't be told it isn't.
+    pub(crate) fn is_at<R: HostDisk>(&self, rt: &R, alloc: Global, path: &str) -> bool {
+        let Ok(led) = led_to(rt, alloc, path) else {
+            return false;
+        };
+        let own = place_of(rt, alloc, self.path.as_str());
+        match (own, place_of(rt, alloc, led.as_str())) {
+            (Ok(own), Ok(other)) => own == other,
+            _ => false,
+        }
+    }
+
     /// The path of a name beside it, in its folder.
     fn beside(&self, alloc: Global, name: &str) -> Result<String, AllocError> {
         let mut path = String::new(alloc);

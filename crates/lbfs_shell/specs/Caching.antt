@@ -1,10 +1,11 @@
 -- What stands where a shell is to keep its cache file, and what comes of it.
-use Rattle.std.specs.Prelude.{◌≡◌, ℕ, List, Option, Some, None, Bool, true, false, Result, Ok, Err, if◌then◌else◌}
+use Rattle.std.specs.Prelude.{◌≡◌, ℕ, List, Option, Some, None, Bool, true, false, Result, Ok, Err, codes, if◌then◌else◌}
 use Rattle.cache_file.specs.Items.{is_cache}
 use Rattle.exit_status.specs.declared.shell_end.ShellEnd.{ShellEnd}
 use Rattle.exit_status.specs.declared.shell_end.ShellEnd.TheVariants as end
 use Rattle.shell_walks.specs.declared.folder.LocalFault.{LocalFault}
 use Rattle.shell_walks.specs.declared.folder.LocalFault.TheVariants as fault
+use Rattle.shell_walks.specs.Telling.{fault_text}
 use Rattle.lbfs_shell.specs.declared.caching.Found.{Found}
 use Rattle.lbfs_shell.specs.declared.caching.Found.TheVariants as found
 
@@ -30,3 +31,9 @@ used_of (found.Hidden f) = Ok false
 abbrev pub Chooses : {F : Type 0} → (reads : F → List ℕ → Result (List ℕ) LocalFault → F → Type 0) → F → Option (List ℕ) → Result Bool ShellEnd → F → Type 0
 Chooses reads host None used host' = (used ≡ Ok false) × (host' ≡ host)
 Chooses reads host (Some name) used host' = (is : Found) × Looks reads host name is host' × (used ≡ used_of is)
+
+-- what is said where it wasn't written: what is no cache file by then is told as at the start
+abbrev pub unsaved_text : LocalFault → List ℕ
+unsaved_text fault.Exists = codes "it is no cache file, and stays as it is; the cache wasn't written"
+unsaved_text fault.TooBig = codes "it is no cache file, and stays as it is; the cache wasn't written"
+unsaved_text f = fault_text f

@@ -2,10 +2,11 @@
 //! what is no cache file is nobody's to replace. `specs/Caching.antt` says what is found.
 
 ghost use Rattle.std.specs.Prelude.{◌≡◌};
-ghost use Rattle.lbfs_shell.specs.Caching.{Looks, found_of};
+ghost use Rattle.lbfs_shell.specs.Caching.{Looks, found_of, unsaved_text};
 
 use lb_base::items::Bytes;
 use shell_walks::folder::{Folder, LocalFault};
+use shell_walks::telling::fault_words;
 use std::alloc::Global;
 
 /// What stands there.
@@ -43,4 +44,16 @@ pub(crate) fn look<F: Folder>(alloc: Global, folder: &mut F, name: &str) -> Foun
 {
     let read = folder.read(alloc, name);
     found_of(read)
+}
+
+/// What is said of a cache file that wasn't written. What is no cache file by then stays.
+pub(crate) fn unsaved_words(fault: LocalFault) -> &'static [u8]
+    ensures { result.now ≡ unsaved_text fault }
+{
+    match fault {
+        LocalFault::Exists | LocalFault::TooBig => {
+            b"it is no cache file, and stays as it is; the cache wasn't written"
+        }
+        fault => fault_words(fault),
+    }
 }

@@ -5,7 +5,7 @@ ghost use Rattle.exit_status.specs.declared.shell_end.ShellEnd.TheVariants as en
 ghost use Rattle.lbfs_shell.specs.Caching.{Chooses, used_of};
 ghost use Rattle.lbfs_shell.specs.Ends.{SinkCause, HasCause, HasLeft, end_of};
 
-use crate::caching::{Found, look};
+use crate::caching::{Found, look, unsaved_words};
 use crate::crew::{Manner, run_line, run_task};
 use crate::help;
 use crate::outside::Outside;
@@ -672,7 +672,9 @@ fn save_cache<P: Screen, R: Remote, F: Folder>(
         if is_through(end) {
             let name = path.as_str();
             let fault = save(alloc, &seat.remote, &mut seat.folder, name);
-            say_fault(alloc, screen, name, fault);
+            if let Some(fault) = fault {
+                say_words(alloc, screen, name, unsaved_words(fault));
+            }
         }
     }
 }
