@@ -23,7 +23,7 @@ pub no_listing : in_listed (codes "h") (codes "d" ∷ []) (record cleaning { del
 no_listing = refl
 
 -- a name that no folder here gives or gets stays at the server, which is said where something may go
-pub a_name_stays : in_known (codes "h") (codes "d" ∷ []) cleaning [] (record { names = codes ".." ∷ []; ids = 3 ∷ [] }) [] ≡ record { more = []; note = codes "/d/..: no file here can have this name\n"; news = []; files = 0; bytes = 0; is_off = false; left = 0 }
+pub a_name_stays : in_known (codes "h") (codes "d" ∷ []) cleaning [] (record { names = codes ".." ∷ []; ids = 3 ∷ [] }) [] ≡ record { more = []; note = codes "/d/..: it stays: no file here can have this name\n"; news = []; files = 0; bytes = 0; is_off = false; left = 0 }
 a_name_stays = refl
 
 pub nothing_goes : in_known (codes "h") (codes "d" ∷ []) (record cleaning { deletes = false }) [] (record { names = codes ".." ∷ []; ids = 3 ∷ [] }) [] ≡ record { more = []; note = []; news = []; files = 0; bytes = 0; is_off = false; left = 0 }

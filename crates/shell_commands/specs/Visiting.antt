@@ -69,9 +69,12 @@ abbrev pub bad_names : (folder : List ℕ) → (names : List (List ℕ)) → Lis
 bad_names folder [] = []
 bad_names folder (name ∷ names) = bad_more folder name ++ bad_names folder names
 
--- of those in a directory, by their paths at the server
+-- of those in a directory, which stay, by their paths at the server
+abbrev pub odd_text : (name : List ℕ) → List ℕ
+odd_text name = if is_temporary name then fault_text faults.LeftOver else codes "it stays: no file here can have this name"
+
 abbrev pub odd_name : (path : List (List ℕ)) → (name : List ℕ) → List ℕ
-odd_name path name = note_line (path_text (path ++ name ∷ [])) (fault_text (name_fault name))
+odd_name path name = note_line (path_text (path ++ name ∷ [])) (odd_text name)
 
 abbrev pub odd_more : (path : List (List ℕ)) → (name : List ℕ) → List ℕ
 odd_more path name = if is_carried name then [] else odd_name path name

@@ -2,7 +2,7 @@
 
 ghost use Rattle.std.specs.Prelude.{◌≡◌, ◌++◌, IfOk, OnOk};
 ghost use Rattle.shell_commands.specs.Putting.{with_odd};
-ghost use Rattle.shell_commands.specs.Visiting.{bad_more, bad_name, bad_names, name_fault, odd_more, odd_name, odd_names};
+ghost use Rattle.shell_commands.specs.Visiting.{bad_more, bad_name, bad_names, name_fault, odd_more, odd_name, odd_names, odd_text};
 
 use lb_base::items::{Bytes, Items, Name};
 use shell_walks::folder::LocalFault;
@@ -61,12 +61,23 @@ pub(crate) fn bad_names(alloc: Global, folder: &[u8], names: &[Name]) -> Result<
     Ok(note)
 }
 
+/// Why a name in a directory stays there.
+fn odd_words(name: &[u8]) -> &'static [u8]
+    ensures { result.now ≡ odd_text name.now }
+{
+    if is_temporary(name) {
+        fault_words(LocalFault::LeftOver)
+    } else {
+        b"it stays: no file here can have this name"
+    }
+}
+
 /// What is said of a name in a directory that goes nowhere.
 fn odd_name(alloc: Global, path: &[Name], name: &[u8]) -> Result<Bytes, AllocError>
     ensures { IfOk result (λ text. text ≡ odd_name path.now name.now) }
 {
     let whole = longer(alloc, path, name)?;
-    path_line(alloc, whole.as_slice(), fault_words(name_fault(name)))
+    path_line(alloc, whole.as_slice(), odd_words(name))
 }
 
 /// What is said of a name in a directory, where it goes nowhere, goes behind what is there.
