@@ -14,7 +14,7 @@ use Rattle.shell_walks.specs.declared.remote.Listed.{Listed}
 use Rattle.shell_walks.specs.declared.remote.Why.{Why}
 use Rattle.shell_walks.specs.declared.tasks.Task.{Task}
 use Rattle.shell_walks.specs.declared.tasks.Task.TheVariants as task
-use Rattle.shell_commands.specs.Getting.{ClearsIf, GetsAs, GetsUnless, GetsElse, GetsFile, GetsIfDeep, GetsIfListed, GetsInto, GetsKind, is_here, MakesIf, misplaced, not_deep_as, not_into_as, Unlisted}
+use Rattle.shell_commands.specs.Getting.{ClearsIf, GetsAs, GetsUnless, GetsElse, GetsFile, GetsIfDeep, GetsIfListed, GetsInto, GetsKind, GetsNew, is_here, makes_folder, MakesIf, misplaced, not_deep_as, not_into_as, Unlisted}
 use Rattle.path_commands.specs.Placing.{is_no_directory}
 use Rattle.shell_commands.specs.Visiting.{AllCome, CountsGot, CountsGot.fetched, CountsGot.not_fetched, EndsGet, faulty_as, is_directory_for, RefusesGet, Touches}
 use Rattle.shell_commands.specs.declared.visiting.Visited.{Visited}
@@ -87,10 +87,14 @@ into_fine : {R F : Type 0} (asks : R → Command → Answer → R → Type 0) (f
 into_fine asks finds makes clears old new h h' path local deep id v true k = listed_fine asks finds makes clears k.between new h h' path local deep id v k.listing k.goes_on
 into_fine asks finds makes clears old new h h' path local deep id v false k = not_into_fine (task.Get path local deep id) path local v k.1.looked k.1.is_told
 
+new_comes : {R F : Type 0} (asks : R → Command → Answer → R → Type 0) (content : R → ℕ → List ℕ) (finds : F → Bool → List ℕ → Kind → F → Type 0) (writes : F → List ℕ → List ℕ → Result Unit LocalFault → F → Type 0) (makes tries : F → List ℕ → Result Unit LocalFault → F → Type 0) (clears : F → List ℕ → F → Type 0) (old new : R) (h h' : F) (path : List (List ℕ)) (local : List ℕ) (deep : Bool) (id : Option ℕ) (v : Visited) (b : Bool) → GetsNew asks content finds writes makes tries clears old h b path local deep id v new h' → Got_so asks content writes tries id path local deep v
+new_comes asks content finds writes makes tries clears old new h h' path local deep id v true k = uncounted asks content writes tries path local deep id v (listed_fine asks finds makes clears k.between new h h' path local deep id v k.listing k.goes_on)
+new_comes asks content finds writes makes tries clears old new h h' path local deep id v false k = file_comes asks content finds writes makes tries clears old new h h' path local deep id v k
+
 kind_comes : {R F : Type 0} (asks : R → Command → Answer → R → Type 0) (content : R → ℕ → List ℕ) (offers : R → List ℕ → R → Type 0) (finds : F → Bool → List ℕ → Kind → F → Type 0) (reads : F → List ℕ → Result (List ℕ) LocalFault → F → Type 0) (writes : F → List ℕ → List ℕ → Result Unit LocalFault → F → Type 0) (makes tries : F → List ℕ → Result Unit LocalFault → F → Type 0) (clears : F → List ℕ → F → Type 0) (old new : R) (h h' : F) (path : List (List ℕ)) (local : List ℕ) (deep : Bool) (id : Option ℕ) (v : Visited) (kind : Kind) → GetsKind asks content offers finds reads writes makes tries clears old h kind path local deep id v new h' → Got_so asks content writes tries id path local deep v
 kind_comes asks content offers finds reads writes makes tries clears old new h h' path local deep id v kinds.Folder k = uncounted asks content writes tries path local deep id v (into_fine asks finds makes clears old new h h' path local deep id v deep k)
 kind_comes asks content offers finds reads writes makes tries clears old new h h' path local deep id v kinds.File k = file_comes asks content finds writes makes tries clears k.between new k.here h' path local deep id v k.goes_on
-kind_comes asks content offers finds reads writes makes tries clears old new h h' path local deep id v kind k = file_comes asks content finds writes makes tries clears old new h h' path local deep id v k
+kind_comes asks content offers finds reads writes makes tries clears old new h h' path local deep id v kind k = new_comes asks content finds writes makes tries clears old new h h' path local deep id v (makes_folder deep local) k
 
 pub at_comes : {R F : Type 0} (asks : R → Command → Answer → R → Type 0) (content : R → ℕ → List ℕ) (offers : R → List ℕ → R → Type 0) (finds : F → Bool → List ℕ → Kind → F → Type 0) (reads : F → List ℕ → Result (List ℕ) LocalFault → F → Type 0) (writes : F → List ℕ → List ℕ → Result Unit LocalFault → F → Type 0) (makes tries : F → List ℕ → Result Unit LocalFault → F → Type 0) (clears : F → List ℕ → F → Type 0) (old new : R) (h h' : F) (path : List (List ℕ)) (local : List ℕ) (deep : Bool) (id : Option ℕ) (v : Visited) (b : Bool) → GetsUnless asks content offers finds reads writes makes tries clears old h b path local deep id v new h' → Got_so asks content writes tries id path local deep v
 at_comes asks content offers finds reads writes makes tries clears old new h h' path local deep id v true k = uncounted asks content writes tries path local deep id v (listed_fine asks finds makes clears k.between new h h' path local deep id v k.listing k.goes_on)
@@ -130,10 +134,14 @@ into_touches : {R F : Type 0} (asks : R → Command → Answer → R → Type 0)
 into_touches asks finds reads writes lists makes tries clears old new h h' path local v true k = listed_touches asks finds reads writes lists makes tries clears k.between new h h' path local v k.listing k.goes_on
 into_touches asks finds reads writes lists makes tries clears old new h h' path local v false k = stayed local h h' k.0
 
+new_touches : {R F : Type 0} (asks : R → Command → Answer → R → Type 0) (content : R → ℕ → List ℕ) (finds : F → Bool → List ℕ → Kind → F → Type 0) (reads : F → List ℕ → Result (List ℕ) LocalFault → F → Type 0) (writes : F → List ℕ → List ℕ → Result Unit LocalFault → F → Type 0) (lists : F → List ℕ → Result (List (List ℕ)) LocalFault → F → Type 0) (makes tries : F → List ℕ → Result Unit LocalFault → F → Type 0) (clears : F → List ℕ → F → Type 0) (old new : R) (h h' : F) (path : List (List ℕ)) (local : List ℕ) (deep : Bool) (id : Option ℕ) (v : Visited) (b : Bool) → GetsNew asks content finds writes makes tries clears old h b path local deep id v new h' → Touches finds reads writes lists makes tries clears local h h'
+new_touches asks content finds reads writes lists makes tries clears old new h h' path local deep id v true k = listed_touches asks finds reads writes lists makes tries clears k.between new h h' path local v k.listing k.goes_on
+new_touches asks content finds reads writes lists makes tries clears old new h h' path local deep id v false k = file_touches asks content finds reads writes lists makes tries clears old new h h' path local deep id v k
+
 kind_touches : {R F : Type 0} (asks : R → Command → Answer → R → Type 0) (content : R → ℕ → List ℕ) (offers : R → List ℕ → R → Type 0) (finds : F → Bool → List ℕ → Kind → F → Type 0) (reads : F → List ℕ → Result (List ℕ) LocalFault → F → Type 0) (writes : F → List ℕ → List ℕ → Result Unit LocalFault → F → Type 0) (lists : F → List ℕ → Result (List (List ℕ)) LocalFault → F → Type 0) (makes tries : F → List ℕ → Result Unit LocalFault → F → Type 0) (clears : F → List ℕ → F → Type 0) (old new : R) (h h' : F) (path : List (List ℕ)) (local : List ℕ) (deep : Bool) (id : Option ℕ) (v : Visited) (kind : Kind) → GetsKind asks content offers finds reads writes makes tries clears old h kind path local deep id v new h' → Touches finds reads writes lists makes tries clears local h h'
 kind_touches asks content offers finds reads writes lists makes tries clears old new h h' path local deep id v kinds.Folder k = into_touches asks finds reads writes lists makes tries clears old new h h' path local v deep k
 kind_touches asks content offers finds reads writes lists makes tries clears old new h h' path local deep id v kinds.File k = both local h k.here h' (only_read local k.first.bytes h k.here k.first.read) (file_touches asks content finds reads writes lists makes tries clears k.between new k.here h' path local deep id v k.goes_on)
-kind_touches asks content offers finds reads writes lists makes tries clears old new h h' path local deep id v kind k = file_touches asks content finds reads writes lists makes tries clears old new h h' path local deep id v k
+kind_touches asks content offers finds reads writes lists makes tries clears old new h h' path local deep id v kind k = new_touches asks content finds reads writes lists makes tries clears old new h h' path local deep id v (makes_folder deep local) k
 
 pub at_touches : {R F : Type 0} (asks : R → Command → Answer → R → Type 0) (content : R → ℕ → List ℕ) (offers : R → List ℕ → R → Type 0) (finds : F → Bool → List ℕ → Kind → F → Type 0) (reads : F → List ℕ → Result (List ℕ) LocalFault → F → Type 0) (writes : F → List ℕ → List ℕ → Result Unit LocalFault → F → Type 0) (lists : F → List ℕ → Result (List (List ℕ)) LocalFault → F → Type 0) (makes tries : F → List ℕ → Result Unit LocalFault → F → Type 0) (clears : F → List ℕ → F → Type 0) (old new : R) (h h' : F) (path : List (List ℕ)) (local : List ℕ) (deep : Bool) (id : Option ℕ) (v : Visited) (b : Bool) → GetsUnless asks content offers finds reads writes makes tries clears old h b path local deep id v new h' → Touches finds reads writes lists makes tries clears local h h'
 at_touches asks content offers finds reads writes lists makes tries clears old new h h' path local deep id v true k = listed_touches asks finds reads writes lists makes tries clears k.between new h h' path local v k.listing k.goes_on

@@ -1,5 +1,5 @@
 -- What a fetching comes to, over whatever a client does at any command (`asks`) and whatever comes of a call of the host's files: what is asked, what is done here, what is told, and which tasks come.
-use Rattle.std.specs.Prelude.{◌≡◌, ℕ, ◌==◌, ◌&&◌, List, [], length, Bool, true, false, Option, Result, Ok, Err, codes, if◌then◌else◌}
+use Rattle.std.specs.Prelude.{◌≡◌, ℕ, ◌==◌, ◌&&◌, List, [], length, drop, ◌-◌, Bool, true, false, Option, Result, Ok, Err, bytes_eq, codes, if◌then◌else◌}
 use Rattle.command_text.specs.declared.command.Command.{Command}
 use Rattle.shell_walks.specs.Asking.{command_on, AsksOn}
 use Rattle.shell_walks.specs.Fetching.{Gets}
@@ -65,9 +65,17 @@ pub record GetsListed {F : Type 0} (finds : F → Bool → List ℕ → Kind →
   pub places : MakesFolder finds makes old local made between
   pub goes_on : ClearsIf clears between made path local l v new
 
+-- a slash ends the path
+abbrev pub is_slashed : (local : List ℕ) → Bool
+is_slashed local = bytes_eq (drop (length local - 1) local) (codes "/")
+
+abbrev pub no_place : (is_slashed : Bool) → LocalFault
+no_place true = faults.NoFolder
+no_place false = faults.IsFolder
+
 -- a file has no place where a folder is to be. Where the look failed, that is said
 abbrev pub misplaced : (path : List (List ℕ)) → (local : List ℕ) → Answer → Visited
-misplaced path local (answer.Seen seen) = faulty_as local faults.IsFolder
+misplaced path local (answer.Seen seen) = faulty_as local (no_place (is_slashed local))
 misplaced path local a = refused_as path (why_of a)
 
 pub record LooksAgain {R : Type 0} (asks : R → Command → Answer → R → Type 0) (old : R) (path : List (List ℕ)) (local : List ℕ) (v : Visited) (new : R) : Type 0 where
@@ -149,10 +157,18 @@ abbrev pub GetsInto : {R F : Type 0} → (asks : R → Command → Answer → R 
 GetsInto asks finds makes clears old host true path local v new host' = GetsDirectory asks finds makes clears old host path local v new host'
 GetsInto asks finds makes clears old host false path local v new host' = (host' ≡ host) × NotInto asks old path local v new
 
+-- where nothing stands: a directory, to a folder of this path, where a slash asks for that
+abbrev pub makes_folder : (deep : Bool) → (local : List ℕ) → Bool
+makes_folder deep local = deep && is_slashed local
+
+abbrev pub GetsNew : {R F : Type 0} → (asks : R → Command → Answer → R → Type 0) → (content : R → ℕ → List ℕ) → (finds : F → Bool → List ℕ → Kind → F → Type 0) → (writes : F → List ℕ → List ℕ → Result Unit LocalFault → F → Type 0) → (makes tries : F → List ℕ → Result Unit LocalFault → F → Type 0) → (clears : F → List ℕ → F → Type 0) → R → F → (is_folder : Bool) → (path : List (List ℕ)) → (local : List ℕ) → (deep : Bool) → Option ℕ → Visited → R → F → Type 0
+GetsNew asks content finds writes makes tries clears old host true path local deep id v new host' = GetsDirectory asks finds makes clears old host path local v new host'
+GetsNew asks content finds writes makes tries clears old host false path local deep id v new host' = GetsFile asks content finds writes makes tries clears old host path local deep id v new host'
+
 abbrev pub GetsKind : {R F : Type 0} → (asks : R → Command → Answer → R → Type 0) → (content : R → ℕ → List ℕ) → (offers : R → List ℕ → R → Type 0) → (finds : F → Bool → List ℕ → Kind → F → Type 0) → (reads : F → List ℕ → Result (List ℕ) LocalFault → F → Type 0) → (writes : F → List ℕ → List ℕ → Result Unit LocalFault → F → Type 0) → (makes tries : F → List ℕ → Result Unit LocalFault → F → Type 0) → (clears : F → List ℕ → F → Type 0) → R → F → Kind → (path : List (List ℕ)) → (local : List ℕ) → (deep : Bool) → Option ℕ → Visited → R → F → Type 0
 GetsKind asks content offers finds reads writes makes tries clears old host kinds.Folder path local deep id v new host' = GetsInto asks finds makes clears old host deep path local v new host'
 GetsKind asks content offers finds reads writes makes tries clears old host kinds.File path local deep id v new host' = GetsOver asks content offers finds reads writes makes tries clears old host path local deep id v new host'
-GetsKind asks content offers finds reads writes makes tries clears old host k path local deep id v new host' = GetsFile asks content finds writes makes tries clears old host path local deep id v new host'
+GetsKind asks content offers finds reads writes makes tries clears old host k path local deep id v new host' = GetsNew asks content finds writes makes tries clears old host (makes_folder deep local) path local deep id v new host'
 
 pub record GetsFound {R F : Type 0} (asks : R → Command → Answer → R → Type 0) (content : R → ℕ → List ℕ) (offers : R → List ℕ → R → Type 0) (finds : F → Bool → List ℕ → Kind → F → Type 0) (reads : F → List ℕ → Result (List ℕ) LocalFault → F → Type 0) (writes : F → List ℕ → List ℕ → Result Unit LocalFault → F → Type 0) (makes tries : F → List ℕ → Result Unit LocalFault → F → Type 0) (clears : F → List ℕ → F → Type 0) (old : R) (host : F) (path : List (List ℕ)) (local : List ℕ) (deep : Bool) (id : Option ℕ) (v : Visited) (new : R) (host' : F) : Type 0 where
   pub kind : Kind

@@ -7,6 +7,7 @@ use Rattle.shell_walks.specs.declared.remote.Answer.TheVariants as answer
 use Rattle.shell_walks.specs.declared.remote.Why.TheVariants as why
 use Rattle.shell_walks.specs.declared.tasks.Storing.{Storing}
 use Rattle.shell_walks.specs.declared.tasks.Task.TheVariants as task
+use Rattle.shell_commands.specs.Getting.{makes_folder}
 use Rattle.shell_commands.specs.Here.{got_as, is_into, local_in, name_got, plain, source_as}
 use Rattle.shell_commands.specs.Lines.{fits_slash, has_slash, is_fit, slashed_as, target_as, wants_dir}
 use Rattle.shell_commands.specs.Putting.{again_if, in_known, in_listed, stored_as}
@@ -82,6 +83,16 @@ a_file_here = refl
 -- a file goes to nw/ where that is a directory alone
 pub a_slash : wants_dir false (codes "t/nw/") ≡ true
 a_slash = refl
+
+-- get -r makes the folder nw/; without -r, or without the slash, it is as of any other path
+pub a_folder_that_is_made : makes_folder true (codes "./nw/") ≡ true
+a_folder_that_is_made = refl
+
+pub a_file_to_a_slash : makes_folder false (codes "./nw/") ≡ false
+a_file_to_a_slash = refl
+
+pub no_slash_here : makes_folder true (codes "./nw") ≡ false
+no_slash_here = refl
 
 pub no_slash : wants_dir false (codes "t/nw") ≡ false
 no_slash = refl

@@ -1,8 +1,8 @@
 //! How something of the server's is fetched, by the walks of `fetching`: `specs/Getting.antt`.
 
 ghost use Rattle.std.specs.Prelude.{◌≡◌, IfOk, OnOk};
-ghost use Rattle.shell_commands.specs.Getting.{folder_as, in_directory, is_here, is_root, misplaced, not_deep_as, not_into_as};
-ghost use Rattle.shell_commands.specs.Getting.{ClearsIf, Ends, GetsAs, GetsAt, GetsDirectory, GetsElse, GetsFile, GetsFound, GetsIfDeep, GetsIfListed, GetsInto, GetsKind, GetsListed, GetsOver};
+ghost use Rattle.shell_commands.specs.Getting.{folder_as, in_directory, is_here, is_root, is_slashed, makes_folder, misplaced, no_place, not_deep_as, not_into_as};
+ghost use Rattle.shell_commands.specs.Getting.{ClearsIf, Ends, GetsAs, GetsAt, GetsDirectory, GetsElse, GetsFile, GetsFound, GetsIfDeep, GetsIfListed, GetsInto, GetsKind, GetsListed, GetsNew, GetsOver};
 ghost use Rattle.shell_commands.specs.Getting.{LooksAgain, MakesFolder, MakesIf, NotInto, OffersFile, Unlisted};
 ghost use Rattle.path_commands.specs.Placing.{is_no_directory};
 ghost use Rattle.shell_commands.specs.Visiting.{AllCome, CountsGot, is_directory_for, Touches};
@@ -10,6 +10,7 @@ ghost use Rattle.shell_walks.specs.declared.tasks.Task.TheVariants as tasks;
 
 use crate::unfit::bad_names;
 use crate::visiting::{Visited, faulty, leads, one_file, refused, said};
+use command_text::words::is;
 use lb_base::items::{Items, Name};
 use shell_walks::asking::{Deed, ask_on};
 use shell_walks::fetching::{Got, get};
@@ -125,6 +126,25 @@ fn get_listed<F: Folder>(
     clear_if(alloc, folder, made, path, local, listed)
 }
 
+/// Whether a slash ends a path of the host's.
+fn is_slashed(local: &str) -> bool
+    ensures { result ≡ is_slashed local.now }
+{
+    let text = local.as_bytes();
+    is(&text[text.len().saturating_sub(1)..], b"/")
+}
+
+/// Why a file has no place where a folder is to be.
+fn no_place(is_slashed: bool) -> LocalFault
+    ensures { result ≡ no_place is_slashed }
+{
+    if is_slashed {
+        LocalFault::NoFolder
+    } else {
+        LocalFault::IsFolder
+    }
+}
+
 /// What is said of what was to go into a folder and can't be listed: a file has no place there.
 fn misplaced(
     alloc: Global,
@@ -135,7 +155,7 @@ fn misplaced(
     ensures { IfOk result (λ v. v ≡ misplaced path.now local.now looked.now) }
 {
     match looked {
-        Answer::Seen(_) => faulty(alloc, local, LocalFault::IsFolder),
+        Answer::Seen(_) => faulty(alloc, local, no_place(is_slashed(local))),
         looked => refused(alloc, path, why_of(looked)),
     }
 }
@@ -371,6 +391,33 @@ fn get_into<R: Remote, F: Folder>(
     }
 }
 
+/// Whether a folder is made for what is fetched, which is a directory then.
+fn makes_folder(deep: bool, local: &str) -> bool
+    ensures { result ≡ makes_folder deep local.now }
+{
+    deep && is_slashed(local)
+}
+
+/// Something is fetched where nothing is.
+fn get_new<R: Remote, F: Folder>(
+    alloc: Global,
+    remote: &mut R,
+    folder: &mut F,
+    id: Option<u64>,
+    path: &[Name],
+    local: &str,
+    deep: bool,
+    is_folder: bool,
+) -> Result<Visited, AllocError>
+    ensures { IfOk result (λ v. GetsNew R.asks R.content F.finds F.writes F.makes F.tries F.clears remote.old folder.old is_folder path.now local.now deep id v remote.new folder.new) }
+{
+    if is_folder {
+        get_directory(alloc, remote, folder, path, local)
+    } else {
+        get_file(alloc, remote, folder, id, path, local, deep)
+    }
+}
+
 /// Something is fetched to a path of the host's, by what is there.
 fn get_found<R: Remote, F: Folder>(
     alloc: Global,
@@ -386,7 +433,10 @@ fn get_found<R: Remote, F: Folder>(
     match folder.kind(local, true) {
         Kind::Folder => get_into(alloc, remote, folder, deep, path, local),
         Kind::File => get_over(alloc, remote, folder, id, path, local, deep),
-        _ => get_file(alloc, remote, folder, id, path, local, deep),
+        _ => {
+            let is_folder = makes_folder(deep, local);
+            get_new(alloc, remote, folder, id, path, local, deep, is_folder)
+        }
     }
 }
 
