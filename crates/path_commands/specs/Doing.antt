@@ -147,9 +147,14 @@ pub data Makes {R : Type 0} (asks : R → Command → Answer → R → Type 0) (
   none : (count : ℕ) (s : R) → count ≡ 0 → s ≡ old → Makes asks old path count s
   one : (count : ℕ) (s t : R) (a : Answer) → Makes asks old path count s → AsksOn asks s (command_on deed.MakeDir (take (count + 1) path)) a t → is_there a ≡ true → Makes asks old path (count + 1) t
 
+-- what is at fault where one isn't made: the one above it, where that is a file
+abbrev pub unmade_of : (is_file : Bool) → (above path : List (List ℕ)) → List (List ℕ)
+unmade_of true above path = above
+unmade_of false above path = path
+
 -- the first that isn't made is the last; else it is looked at whether all of it is a directory
 pub data MakesAll {R : Type 0} (asks : R → Command → Answer → R → Type 0) (old : R) (path : List (List ℕ)) (told : Told) (new : R) : Type 0 where
-  stopped : (count : ℕ) (s : R) (a : Answer) → Makes asks old path count s → AsksOn asks s (command_on deed.MakeDir (take (count + 1) path)) a new → is_there a ≡ false → told ≡ refused_told (take (count + 1) path) (why_of a) → MakesAll asks old path told new
+  stopped : (count : ℕ) (s : R) (a : Answer) → Makes asks old path count s → AsksOn asks s (command_on deed.MakeDir (take (count + 1) path)) a new → is_there a ≡ false → told ≡ refused_told (unmade_of (is_file (why_of a)) (take count path) (take (count + 1) path)) (why_of a) → MakesAll asks old path told new
   made : (s : R) (looked : Answer) → Makes asks old path (length path) s → AsksOn asks s (command_on deed.Look path) looked new → told ≡ directory_told path looked → MakesAll asks old path told new
 
 -- ---- the directories above what is stored: made where the look at the last of them says that there is none
@@ -197,15 +202,19 @@ abbrev pub is_refused : Answer → Bool
 is_refused (answer.Failed (why.Refused n)) = true
 is_refused a = false
 
--- the name at fault is the first where nothing has it, else the second
-abbrev pub at_fault : (from to : List (List ℕ)) → (answer looked : Answer) → Told
-at_fault from to a (answer.Seen seen) = done_told to a
-at_fault from to a looked = refused_told from (why_of looked)
+abbrev pub is_free : Answer → Bool
+is_free (answer.Failed w) = is_free_for w
+is_free a = false
+
+-- the name at fault is the first where it is free, else the second, also where the look back told nothing
+abbrev pub at_fault : (is_free : Bool) → (from to : List (List ℕ)) → (answer looked : Answer) → Told
+at_fault true from to a looked = refused_told from (why_of looked)
+at_fault false from to a looked = done_told to a
 
 pub record LooksBack {R : Type 0} (asks : R → Command → Answer → R → Type 0) (old : R) (from to : List (List ℕ)) (a : Answer) (told : Told) (new : R) : Type 0 where
   pub looked : Answer
   pub looks : AsksOn asks old (command_on deed.Look from) looked new
-  pub is_told : told ≡ at_fault from to a looked
+  pub is_told : told ≡ at_fault (is_free looked) from to a looked
 
 abbrev pub TellsRename : {R : Type 0} → (asks : R → Command → Answer → R → Type 0) → R → (is_refused : Bool) → (from to : List (List ℕ)) → Answer → Told → R → Type 0
 TellsRename asks old true from to a told new = LooksBack asks old from to a told new

@@ -1,12 +1,12 @@
 -- Worked rows: what a look tells of a path that something is to go to.
-use Rattle.std.specs.Prelude.{◌≡◌, [], ◌∷◌, ◌++◌, true, false, codes, refl}
+use Rattle.std.specs.Prelude.{◌≡◌, [], ◌∷◌, ◌++◌, Some, true, false, codes, refl}
 use Rattle.shell_walks.specs.Telling.{fine, left_text, notes}
 use Rattle.shell_walks.specs.declared.remote.Answer.TheVariants as answer
 use Rattle.shell_walks.specs.declared.remote.Seen.{Seen}
 use Rattle.shell_walks.specs.declared.remote.Why.TheVariants as why
-use Rattle.path_commands.specs.Placing.{instead_as, made_news}
-use Rattle.path_commands.specs.declared.placing.Place.TheVariants as place
-use Rattle.path_commands.specs.Doing.{directory_told, is_known, new_told, way_told, with_left, with_long}
+use Rattle.path_commands.specs.Placing.{no_place, place_news, placed}
+use Rattle.path_commands.specs.declared.placing.Made.TheVariants as made
+use Rattle.path_commands.specs.Doing.{at_fault, directory_told, is_file, is_free, is_known, new_told, way_told, unmade_of, with_left, with_long}
 
 abbrev a_file : Seen
 a_file = record { id = 5; is_dir = false; version = 2; len = 6 }
@@ -57,6 +57,30 @@ a_file_has_it = refl
 pub nothing_has_the_first : new_told (codes "f" ∷ []) (codes "nw" ∷ []) (answer.Failed (why.Refused 2)) (answer.Failed (why.Refused 2)) ≡ notes (codes "/f: no such file or directory\n")
 nothing_has_the_first = refl
 
--- a file went for a directory that then isn't made
-pub the_file_went : made_news (codes "d" ∷ []) (instead_as (place.None why.NoLink)) ≡ codes "/d: removed\n"
-the_file_went = refl
+-- a file went for a directory, be it that none was made then, or that another made it
+pub a_file_went_for_it : place_news (codes "d" ∷ []) true (placed true made.New) ≡ codes "/d: removed\n/d: made\n"
+a_file_went_for_it = refl
+
+pub it_went_for_none : place_news (codes "d" ∷ []) true (placed true (made.None why.NoLink)) ≡ codes "/d: removed\n"
+it_went_for_none = refl
+
+pub there_is_none : no_place (placed true (made.None why.NoLink)) ≡ Some why.NoLink
+there_is_none = refl
+
+pub it_went_for_anothers : place_news (codes "d" ∷ []) true (placed true made.There) ≡ codes "/d: removed\n"
+it_went_for_anothers = refl
+
+pub none_went : place_news (codes "d" ∷ []) true (placed false made.There) ≡ []
+none_went = refl
+
+-- mkdir -p p/x/y, where p is a file
+pub the_file_is_at_fault : unmade_of (is_file (why.Refused 20)) (codes "p" ∷ []) (codes "p" ∷ codes "x" ∷ []) ≡ codes "p" ∷ []
+the_file_is_at_fault = refl
+
+-- NFS3ERR_NOSPC
+pub what_isnt_made_is_at_fault : unmade_of (is_file (why.Refused 28)) (codes "p" ∷ []) (codes "p" ∷ codes "x" ∷ []) ≡ codes "p" ∷ codes "x" ∷ []
+what_isnt_made_is_at_fault = refl
+
+-- NFS3ERR_NOTEMPTY: why it was refused is said, also where the connection is lost behind it
+pub it_is_told_without_a_look : at_fault (is_free (answer.Failed why.Cut)) (codes "a" ∷ []) (codes "b" ∷ []) (answer.Failed (why.Refused 66)) (answer.Failed why.Cut) ≡ notes (codes "/b: the directory isn't empty\n")
+it_is_told_without_a_look = refl

@@ -5,8 +5,8 @@ ghost use Rattle.shell_walks.specs.Asking.{command_on, AsksOn};
 ghost use Rattle.shell_walks.specs.Telling.{left_text, notes};
 ghost use Rattle.shell_walks.specs.declared.asking.Deed.TheVariants as deeds;
 ghost use Rattle.path_commands.specs.Doing.{Does, Stats, RemovesFile, is_dir_told, is_missing, is_known, made_told, directory_told, file_text, file_told, LooksAt, is_file, ListsFile};
-ghost use Rattle.path_commands.specs.Doing.{with_long, is_answered, with_left, ListsLong, ListsOn, Lists, is_there, MakesAll, way_told, WayIf, LooksAbove, MakesWay};
-ghost use Rattle.path_commands.specs.Doing.{RemovesAll, last_of, named_in, place_of, is_refused, at_fault, LooksBack, TellsRename, Renames, new_told, RenamesNew, MovesNew, MovesAs, MovesIf, Moves, OnPath};
+ghost use Rattle.path_commands.specs.Doing.{with_long, is_answered, with_left, ListsLong, ListsOn, Lists, is_there, unmade_of, MakesAll, way_told, WayIf, LooksAbove, MakesWay};
+ghost use Rattle.path_commands.specs.Doing.{RemovesAll, last_of, named_in, place_of, is_refused, is_free, at_fault, LooksBack, TellsRename, Renames, new_told, RenamesNew, MovesNew, MovesAs, MovesIf, Moves, OnPath};
 
 use command_text::path::Path;
 use lb_base::items::{Bytes, Items, Name};
@@ -288,6 +288,13 @@ fn is_there(answer: &Answer) -> bool
     matches!(answer, Answer::Done | Answer::Failed(Why::Refused(17)))
 }
 
+/// What is at fault where a directory isn't made: what stands above it, where that is a file.
+fn unmade_of<'a>(is_file: bool, above: &'a [Name], path: &'a [Name]) -> &'a [Name]
+    ensures { result.now ≡ unmade_of is_file above.now path.now }
+{
+    if is_file { above } else { path }
+}
+
 /// `mkdir -p`: each directory on the way is made, where there is none.
 fn make_all<R: Remote>(alloc: Global, remote: &mut R, path: &[Name]) -> Result<Told, AllocError>
     ensures { IfOk result (λ told. MakesAll R.asks remote.old path.now told remote.new) }
@@ -295,7 +302,9 @@ fn make_all<R: Remote>(alloc: Global, remote: &mut R, path: &[Name]) -> Result<T
     for end in 0..path.len() {
         let answer = ask_on(alloc, remote, Deed::MakeDir, &path[..end + 1])?;
         if !is_there(&answer) {
-            return refused_told(alloc, &path[..end + 1], why_of(&answer));
+            let why = why_of(&answer);
+            let unmade = unmade_of(is_file(why), &path[..end], &path[..end + 1]);
+            return refused_told(alloc, unmade, why);
         }
     }
     let looked = ask_on(alloc, remote, Deed::Look, path)?;
@@ -423,19 +432,29 @@ fn is_refused(answer: &Answer) -> bool
     matches!(answer, Answer::Failed(Why::Refused(_)))
 }
 
-/// What is told of a renaming that wasn't done, by what the first path stands for.
+/// Whether a look says that a path is free: nothing has it, or no directory is above it.
+fn is_free(looked: &Answer) -> bool
+    ensures { result ≡ is_free looked.now }
+{
+    matches!(looked, Answer::Failed(Why::Refused(NOENT | NOTDIR)))
+}
+
+/// What is told of a renaming that the server refused, by what the first path stands for. Where that can't be told
+/// (the connection is lost by then), why it was refused still is.
 fn at_fault(
     alloc: Global,
+    is_free: bool,
     from: &[Name],
     to: &[Name],
     answer: &Answer,
     looked: &Answer,
 ) -> Result<Told, AllocError>
-    ensures { IfOk result (λ told. told ≡ at_fault from.now to.now answer.now looked.now) }
+    ensures { IfOk result (λ told. told ≡ at_fault is_free from.now to.now answer.now looked.now) }
 {
-    match looked {
-        Answer::Seen(_) => done_told(alloc, to, answer),
-        looked => refused_told(alloc, from, why_of(looked)),
+    if is_free {
+        refused_told(alloc, from, why_of(looked))
+    } else {
+        done_told(alloc, to, answer)
     }
 }
 
@@ -450,7 +469,7 @@ fn look_back<R: Remote>(
     ensures { IfOk result (λ told. LooksBack R.asks remote.old from.now to.now answer.now told remote.new) }
 {
     let looked = ask_on(alloc, remote, Deed::Look, from)?;
-    at_fault(alloc, from, to, answer, &looked)
+    at_fault(alloc, is_free(&looked), from, to, answer, &looked)
 }
 
 /// What a renaming came to. Where it wasn't done, the first name is at fault where nothing has it, and else

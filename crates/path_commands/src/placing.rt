@@ -1,9 +1,8 @@
 //! Where a folder of the host goes: its directory is made, where there is none (`specs/Placing.antt`).
 
 ghost use Rattle.std.specs.Prelude.{◌≡◌, ◌&&◌, IfOk};
-ghost use Rattle.path_commands.specs.Placing.{there_as, LooksThere, is_taken, made_as, PlacesIf, MakesPlace, Places, is_in_the_way, instead_as, MakesAgain, AgainIf, MakesInstead, OverIf, PlacesOver};
-ghost use Rattle.path_commands.specs.Placing.{is_new, ListsIf, made_news, no_place, place_news};
-ghost use Rattle.path_commands.specs.declared.placing.Place.TheVariants as places;
+ghost use Rattle.path_commands.specs.Placing.{there_as, LooksThere, is_taken, made_as, PlacesIf, MakesPlace, Places, is_in_the_way, placed, MakesAgain, AgainIf, MakesInstead, OverIf, PlacesOver};
+ghost use Rattle.path_commands.specs.Placing.{is_made, is_new, ListsIf, made_news, no_place, not_made, place_news, went_news};
 
 use lb_base::items::{Bytes, Items, Name};
 use shell_walks::asking::{Deed, ask_on};
@@ -18,35 +17,38 @@ const NOTDIR: u32 = 20;
 
 /// Whether a directory is there for a folder, and whether it is new; or why there is none.
 #[derive(Clone, Copy)]
-pub enum Place {
+pub enum Made {
     New,
-    /// New, in the place of a file that went.
-    Instead,
     There,
     None(Why),
-    /// None, though a file went for it.
-    Gone(Why),
+}
+
+/// The same, and whether a file went for it, be it that none was made then.
+#[derive(Clone, Copy)]
+pub struct Place {
+    made: Made,
+    went: bool,
 }
 
 /// What stands where a directory can't be made.
-fn there_as(looked: &Answer) -> Place
+fn there_as(looked: &Answer) -> Made
     ensures { result ≡ there_as looked.now }
 {
     match looked {
         Answer::Seen(seen) => {
             if seen.is_dir {
-                Place::There
+                Made::There
             } else {
-                Place::None(Why::Refused(NOTDIR))
+                Made::None(Why::Refused(NOTDIR))
             }
         }
-        looked => Place::None(why_of(looked)),
+        looked => Made::None(why_of(looked)),
     }
 }
 
 /// What stands there is looked at.
-fn look_there<R: Remote>(alloc: Global, remote: &mut R, path: &[Name]) -> Result<Place, AllocError>
-    ensures { IfOk result (λ p. LooksThere R.asks remote.old path.now p remote.new) }
+fn look_there<R: Remote>(alloc: Global, remote: &mut R, path: &[Name]) -> Result<Made, AllocError>
+    ensures { IfOk result (λ m. LooksThere R.asks remote.old path.now m remote.new) }
 {
     let looked = ask_on(alloc, remote, Deed::Look, path)?;
     Ok(there_as(&looked))
@@ -60,12 +62,12 @@ fn is_taken(made: &Answer) -> bool
 }
 
 /// What the making of a directory came to, where nothing has the name.
-fn made_as(made: &Answer) -> Place
+fn made_as(made: &Answer) -> Made
     ensures { result ≡ made_as made.now }
 {
     match made {
-        Answer::Done => Place::New,
-        made => Place::None(why_of(made)),
+        Answer::Done => Made::New,
+        made => Made::None(why_of(made)),
     }
 }
 
@@ -76,8 +78,8 @@ fn place_if<R: Remote>(
     is_taken: bool,
     path: &[Name],
     made: &Answer,
-) -> Result<Place, AllocError>
-    ensures { IfOk result (λ p. PlacesIf R.asks remote.old is_taken path.now made.now p remote.new) }
+) -> Result<Made, AllocError>
+    ensures { IfOk result (λ m. PlacesIf R.asks remote.old is_taken path.now made.now m remote.new) }
 {
     if is_taken {
         look_there(alloc, remote, path)
@@ -87,46 +89,42 @@ fn place_if<R: Remote>(
 }
 
 /// A directory is made for a folder.
-fn make_named<R: Remote>(alloc: Global, remote: &mut R, path: &[Name]) -> Result<Place, AllocError>
-    ensures { IfOk result (λ p. MakesPlace R.asks remote.old path.now p remote.new) }
+fn make_named<R: Remote>(alloc: Global, remote: &mut R, path: &[Name]) -> Result<Made, AllocError>
+    ensures { IfOk result (λ m. MakesPlace R.asks remote.old path.now m remote.new) }
 {
     let made = ask_on(alloc, remote, Deed::MakeDir, path)?;
     place_if(alloc, remote, is_taken(&made), path, &made)
 }
 
 /// A directory is made for a folder, where there is none.
-fn make_place<R: Remote>(alloc: Global, remote: &mut R, path: &[Name]) -> Result<Place, AllocError>
-    ensures { IfOk result (λ p. Places R.asks remote.old path.now p remote.new) }
+fn make_place<R: Remote>(alloc: Global, remote: &mut R, path: &[Name]) -> Result<Made, AllocError>
+    ensures { IfOk result (λ m. Places R.asks remote.old path.now m remote.new) }
 {
     match path {
-        [] => Ok(Place::There),
+        [] => Ok(Made::There),
         [_name, ..] => make_named(alloc, remote, path),
     }
 }
 
 /// Whether a file stands there.
-fn is_in_the_way(place: Place) -> bool
-    ensures { result ≡ is_in_the_way place }
+fn is_in_the_way(made: Made) -> bool
+    ensures { result ≡ is_in_the_way made }
 {
-    matches!(place, Place::None(Why::Refused(NOTDIR)))
+    matches!(made, Made::None(Why::Refused(NOTDIR)))
 }
 
 /// Whether a file that stands there goes.
-fn may_go(place: Place, deletes: bool) -> bool
-    ensures { result ≡ (is_in_the_way place && deletes) }
+fn may_go(made: Made, deletes: bool) -> bool
+    ensures { result ≡ (is_in_the_way made && deletes) }
 {
-    is_in_the_way(place) && deletes
+    is_in_the_way(made) && deletes
 }
 
-/// A directory that is new is in the place of a file that went, and where there is none the file still went.
-fn instead_as(place: Place) -> Place
-    ensures { result ≡ instead_as place }
+/// What came of a directory, and whether a file went for it.
+fn placed(went: bool, made: Made) -> Place
+    ensures { result ≡ placed went made }
 {
-    match place {
-        Place::New => Place::Instead,
-        Place::None(why) => Place::Gone(why),
-        place => place,
-    }
+    Place { made, went }
 }
 
 /// A directory is made in the place of a file that was removed.
@@ -134,7 +132,7 @@ fn make_again<R: Remote>(alloc: Global, remote: &mut R, path: &[Name]) -> Result
     ensures { IfOk result (λ p. MakesAgain R.asks remote.old path.now p remote.new) }
 {
     let again = make_place(alloc, remote, path)?;
-    Ok(instead_as(again))
+    Ok(placed(true, again))
 }
 
 /// The same, where it was removed. Where it wasn't, that is why there is no directory.
@@ -148,7 +146,7 @@ fn again_if<R: Remote>(
 {
     match gone {
         Answer::Done => make_again(alloc, remote, path),
-        gone => Ok(Place::None(why_of(gone))),
+        gone => Ok(placed(false, Made::None(why_of(gone)))),
     }
 }
 
@@ -170,14 +168,14 @@ fn over_if<R: Remote>(
     remote: &mut R,
     may_go: bool,
     path: &[Name],
-    before: Place,
+    before: Made,
 ) -> Result<Place, AllocError>
     ensures { IfOk result (λ p. OverIf R.asks remote.old may_go path.now before p remote.new) }
 {
     if may_go {
         make_instead(alloc, remote, path)
     } else {
-        Ok(before)
+        Ok(placed(false, before))
     }
 }
 
@@ -211,45 +209,58 @@ pub fn list_if<R: Remote>(
 }
 
 /// Why there is no directory, if there is none.
+fn not_made(made: Made) -> Option<Why>
+    ensures { result ≡ not_made made }
+{
+    match made {
+        Made::None(why) => Some(why),
+        _ => None,
+    }
+}
+
+/// Why there is no directory, if there is none.
 pub fn no_place(place: Place) -> Option<Why>
     ensures { result ≡ no_place place }
 {
-    match place {
-        Place::None(why) | Place::Gone(why) => Some(why),
-        _ => None,
-    }
+    not_made(place.made)
+}
+
+/// Whether nothing is in a directory yet.
+fn is_made(made: Made) -> bool
+    ensures { result ≡ is_made made }
+{
+    !matches!(made, Made::There)
 }
 
 /// Whether nothing is in a directory yet.
 pub fn is_new(place: Place) -> bool
     ensures { result ≡ is_new place }
 {
-    !matches!(place, Place::There)
+    is_made(place.made)
 }
 
-/// That a directory was made, in the place of a file.
-fn instead_news(alloc: Global, path: &[Name]) -> Result<Bytes, AllocError>
-    ensures { IfOk result (λ news. news ≡ made_news path.now places.Instead) }
+/// What is said of a file that went for a directory.
+fn went_news(alloc: Global, path: &[Name], went: bool) -> Result<Bytes, AllocError>
+    ensures { IfOk result (λ news. news ≡ went_news path.now went) }
 {
-    let mut news = path_line(alloc, path, REMOVED)?;
-    let made = path_line(alloc, path, MADE)?;
-    news.extend_from_slice(made.as_slice())?;
-    Ok(news)
+    if went {
+        path_line(alloc, path, REMOVED)
+    } else {
+        Ok(Items::new(alloc))
+    }
 }
 
-/// What is said of a directory that was made, and of a file that went.
-fn made_news(alloc: Global, path: &[Name], place: Place) -> Result<Bytes, AllocError>
-    ensures { IfOk result (λ news. news ≡ made_news path.now place) }
+/// What is said of a directory that was made.
+fn made_news(alloc: Global, path: &[Name], made: Made) -> Result<Bytes, AllocError>
+    ensures { IfOk result (λ news. news ≡ made_news path.now made) }
 {
-    match place {
-        Place::New => path_line(alloc, path, MADE),
-        Place::Instead => instead_news(alloc, path),
-        Place::Gone(_) => path_line(alloc, path, REMOVED),
+    match made {
+        Made::New => path_line(alloc, path, MADE),
         _ => Ok(Items::new(alloc)),
     }
 }
 
-/// What a sync says of a directory that was made.
+/// What a sync says of a directory, and of a file that went for it.
 pub fn place_news(
     alloc: Global,
     path: &[Name],
@@ -259,7 +270,10 @@ pub fn place_news(
     ensures { IfOk result (λ news. news ≡ place_news path.now is_said place) }
 {
     if is_said {
-        made_news(alloc, path, place)
+        let mut news = went_news(alloc, path, place.went)?;
+        let made = made_news(alloc, path, place.made)?;
+        news.extend_from_slice(made.as_slice())?;
+        Ok(news)
     } else {
         Ok(Items::new(alloc))
     }
