@@ -8,7 +8,7 @@ use Rattle.shell_words.specs.declared.command.Verb.{Verb}
 use Rattle.shell_words.specs.declared.command.Verb.TheVariants as verb
 use Rattle.shell_words.specs.declared.mistake.Mistake.{Mistake}
 use Rattle.shell_walks.specs.Asking.{command_on, AsksOn}
-use Rattle.shell_walks.specs.Telling.{fault_text, fine, is_fine, mistake_text, path_text}
+use Rattle.shell_walks.specs.Telling.{fault_text, fine, is_fine, mistake_text, note_line, notes, path_text}
 use Rattle.shell_walks.specs.declared.asking.Deed.TheVariants as deed
 use Rattle.shell_walks.specs.declared.folder.Kind.{Kind}
 use Rattle.shell_walks.specs.declared.folder.LocalFault.TheVariants as fault
@@ -92,6 +92,21 @@ pub record Goes {R : Type 0} (asks : R → Command → Answer → R → Type 0) 
   pub asked : AsksOn asks old (command_on deed.Look path) answer new
   pub is_told : told ≡ directory_told path answer
   pub stands : dir' ≡ gone_to dir path (is_dir_told answer)
+
+-- ---- rm: what the shell stands in isn't removed with all that is in it
+
+-- whether a path is the directory's, or of one above it; the root is above all
+abbrev pub is_over : (path dir : List (List ℕ)) → Bool
+is_over [] dir = true
+is_over (name ∷ names) [] = false
+is_over (name ∷ names) (part ∷ parts) = bytes_eq name part && is_over names parts
+
+abbrev pub stood_in : (path : List (List ℕ)) → Told
+stood_in path = notes (note_line (path_text path) (codes "it stays: this shell stands in it"))
+
+abbrev pub RemovesIf : {R : Type 0} → (asks : R → Command → Answer → R → Type 0) → (content : R → ℕ → List ℕ) → R → (stays has_option : Bool) → List (List ℕ) → Told → R → Type 0
+RemovesIf asks content old true option path told new = (new ≡ old) × (told ≡ stood_in path)
+RemovesIf asks content old false option path told new = OnPath asks content old verb.Rm option path told new
 
 -- ---- mv: its second path is named by a word, too
 
@@ -222,6 +237,7 @@ abbrev pub DoesPath : {R F : Type 0} → (asks : R → Command → Answer → R 
 DoesPath asks content finds clears verb.Cd line folder dir path old host w new host' dir' = (host' ≡ host) × Tells w (λ told. Goes asks old dir path told new dir')
 DoesPath asks content finds clears verb.Get line folder dir path old host w new host' dir' = (new ≡ old) × (dir' ≡ dir) × GetsIf finds clears host (is_name_here (name_got path)) folder line path w host'
 DoesPath asks content finds clears verb.Mv line folder dir path old host w new host' dir' = (host' ≡ host) × (dir' ≡ dir) × Tells w (λ told. MovesTo asks old dir path (operand_of line 1) told new)
+DoesPath asks content finds clears verb.Rm line folder dir path old host w new host' dir' = (host' ≡ host) × (dir' ≡ dir) × Tells w (λ told. RemovesIf asks content old (line.has_option && is_over path dir) line.has_option path told new)
 DoesPath asks content finds clears v line folder dir path old host w new host' dir' = (host' ≡ host) × (dir' ≡ dir) × Tells w (λ told. OnPath asks content old v line.has_option path told new)
 
 abbrev pub DoesNamed : {R F : Type 0} → (asks : R → Command → Answer → R → Type 0) → (content : R → ℕ → List ℕ) → (finds : F → Bool → List ℕ → Kind → F → Type 0) → (clears : F → List ℕ → F → Type 0) → Line → (folder : List ℕ) → (dir : List (List ℕ)) → Named → R → F → Went → R → F → (dir' : List (List ℕ)) → Type 0

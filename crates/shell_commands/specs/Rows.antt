@@ -1,5 +1,6 @@
 -- Worked rows of what a line's words name, and of what tasks come to.
 use Rattle.std.specs.Prelude.{◌≡◌, [], ◌∷◌, Bool, true, false, Some, None, codes, refl}
+use Rattle.shell_walks.specs.Telling.{notes}
 use Rattle.shell_walks.specs.declared.folder.Kind.TheVariants as kind
 use Rattle.shell_walks.specs.declared.folder.LocalFault.TheVariants as fault
 use Rattle.shell_walks.specs.declared.remote.Answer.{Answer}
@@ -9,7 +10,7 @@ use Rattle.shell_walks.specs.declared.tasks.Storing.{Storing}
 use Rattle.shell_walks.specs.declared.tasks.Task.TheVariants as task
 use Rattle.shell_commands.specs.Getting.{makes_folder}
 use Rattle.shell_commands.specs.Here.{got_as, is_into, local_in, name_got, plain, source_as}
-use Rattle.shell_commands.specs.Lines.{fits_slash, has_slash, is_fit, slashed_as, target_as, wants_dir}
+use Rattle.shell_commands.specs.Lines.{fits_slash, has_slash, is_fit, is_over, stood_in, slashed_as, target_as, wants_dir}
 use Rattle.shell_commands.specs.Putting.{again_if, in_known, in_listed, stored_as}
 use Rattle.shell_commands.specs.Visiting.{removed_as}
 use Rattle.shell_commands.specs.declared.here.NamedLocal.TheVariants as namedlocal
@@ -138,3 +139,22 @@ a_file_is_no_directory = refl
 
 pub the_look_is_lost : fits_slash false (answer.Failed why.Cut) ≡ false
 the_look_is_lost = refl
+
+-- rm -r in /a/b: that, what it is in, and the root stay; beside them and below it nothing does
+pub it_stands_there : is_over (codes "a" ∷ codes "b" ∷ []) (codes "a" ∷ codes "b" ∷ []) ≡ true
+it_stands_there = refl
+
+pub it_stands_below : is_over (codes "a" ∷ []) (codes "a" ∷ codes "b" ∷ []) ≡ true
+it_stands_below = refl
+
+pub the_root_is_over_all : is_over [] (codes "a" ∷ []) ≡ true
+the_root_is_over_all = refl
+
+pub it_stands_above : is_over (codes "a" ∷ codes "b" ∷ codes "c" ∷ []) (codes "a" ∷ codes "b" ∷ []) ≡ false
+it_stands_above = refl
+
+pub it_stands_beside : is_over (codes "a" ∷ codes "bc" ∷ []) (codes "a" ∷ codes "b" ∷ []) ≡ false
+it_stands_beside = refl
+
+pub so_it_is_told : stood_in (codes "a" ∷ []) ≡ notes (codes "/a: it stays: this shell stands in it\n")
+so_it_is_told = refl

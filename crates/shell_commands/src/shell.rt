@@ -5,7 +5,7 @@ ghost use Rattle.std.specs.Prelude.{◌≡◌, ◌++◌, codes, IfOk, OnOk};
 ghost use Rattle.shell_words.specs.Paths.{above};
 ghost use Rattle.shell_walks.specs.Telling.{fine, path_text};
 ghost use Rattle.shell_commands.specs.Here.{IsFolderOf, is_name_here, name_got};
-ghost use Rattle.shell_commands.specs.Lines.{mistaken_as, operand_of, Names, has_slash, fits_slash, slashed_as, LooksSlash, SlashIf, NamesAt, gone_to, Goes, MovesTo, GetsInto, Gets, name_into, GetsIf, put_storing, sync_storing};
+ghost use Rattle.shell_commands.specs.Lines.{mistaken_as, operand_of, Names, has_slash, fits_slash, slashed_as, LooksSlash, SlashIf, NamesAt, gone_to, Goes, is_over, stood_in, RemovesIf, MovesTo, GetsInto, Gets, name_into, GetsIf, put_storing, sync_storing};
 ghost use Rattle.shell_commands.specs.Lines.{wants_dir, target_if, is_fit, target_as, LooksTarget, TargetsIf, Targets, task_as, StoresTo, Stores};
 ghost use Rattle.shell_commands.specs.Lines.{PutsTo, SyncsTo, PutsFrom, SyncsFrom, RunsPut, RunsSync, DoesPath, DoesNamed, RunsNamed, Runs, KeepsFolder, StandsFirst};
 
@@ -21,8 +21,8 @@ use shell_walks::asking::{Deed, ask_on};
 use shell_walks::folder::{Folder, LocalFault};
 use shell_walks::remote::{Answer, Remote};
 use shell_walks::tasks::{Storing, Task, longer};
-use shell_walks::telling::{fault_words, mistake_words, path_text};
-use shell_walks::told::{Told, fine};
+use shell_walks::telling::{fault_words, mistake_words, path_line, path_text};
+use shell_walks::told::{Told, fine, notes};
 use shell_words::command::{Line, Verb};
 use shell_words::local::{LocalPath, is_component};
 use shell_words::mistake::{Mistake, ReadError};
@@ -182,6 +182,44 @@ fn go<R: Remote>(
     let told = directory_told(alloc, path.as_slice(), &answer)?;
     go_to(dir, path, is_dir_told(&answer));
     Ok(told)
+}
+
+/// Whether a path is the directory's, or of one above it.
+fn is_over(path: &[Name], dir: &[Name]) -> bool
+    ensures { result ≡ is_over path.now dir.now }
+{
+    match (path, dir) {
+        ([], _) => true,
+        ([name, names @ ..], [part, parts @ ..]) => {
+            is(name.as_slice(), part.as_slice()) && is_over(names, parts)
+        }
+        _ => false,
+    }
+}
+
+/// What is told of a directory that the shell stands in.
+fn stood_in(alloc: Global, path: &[Name]) -> Result<Told, AllocError>
+    ensures { IfOk result (λ told. told ≡ stood_in path.now) }
+{
+    let note = path_line(alloc, path, b"it stays: this shell stands in it")?;
+    Ok(notes(alloc, note))
+}
+
+/// `rm`. What the shell stands in isn't removed with all that is in it.
+fn remove_if<R: Remote>(
+    alloc: Global,
+    remote: &mut R,
+    stays: bool,
+    has_option: bool,
+    path: &[Name],
+) -> Result<Told, AllocError>
+    ensures { IfOk result (λ told. RemovesIf R.asks R.content remote.old stays has_option path.now told remote.new) }
+{
+    if stays {
+        stood_in(alloc, path)
+    } else {
+        on_path(alloc, remote, Verb::Rm, has_option, path)
+    }
 }
 
 /// `mv`, whose second path a word names.
@@ -614,6 +652,11 @@ impl Shell {
             Verb::Mv => {
                 let dir = self.dir.as_slice();
                 let told = move_named(alloc, remote, dir, path.as_slice(), operand(line, 1))?;
+                Ok(Went::Told(told))
+            }
+            Verb::Rm => {
+                let stays = line.has_option && is_over(path.as_slice(), self.dir.as_slice());
+                let told = remove_if(alloc, remote, stays, line.has_option, path.as_slice())?;
                 Ok(Went::Told(told))
             }
             verb => {
