@@ -6,9 +6,9 @@ ghost use Rattle.std.specs.Prelude.{◌≡◌, ◌≤◌, ◌-◌, ◌++◌, ◌
 ghost use Rattle.shell_telling.specs.Tally.{capped_sum, with_visit};
 ghost use Rattle.shell_telling.specs.Telling.{left_out_text};
 
+use folder_tasks::visiting::Visited;
 use last_words::keeping::Keeps;
 use lb_base::items::{Bytes, Items};
-use shell_commands::visiting::Visited;
 use shell_telling::tally::Tally;
 use shell_telling::telling::{Glance, again_text, left_out_text, shown_line, stopped_line};
 use shell_walks::screen::Screen;

@@ -1,7 +1,1 @@
-pub mod Bytes
-pub mod Fetched
 pub mod Lined
-pub mod Removed
-pub mod Sparing
-pub mod Stored
-pub mod Touching

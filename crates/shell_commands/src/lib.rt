@@ -1,10 +1,6 @@
-//! The commands of a shell, and the tasks of folders and directories, over what is done with one path
-//! (`shell_walks`). `specs/Visiting.antt` says what a task leaves alone.
+//! The commands of a shell: what a line comes to, over what is done with one path (`path_commands`). `specs/Lines.antt`
+//! says which path a word names, and what is done with it.
 #![tactic(auto)]
 
-mod getting;
 mod here;
-mod putting;
 pub mod shell;
-mod unfit;
-pub mod visiting;

@@ -3,7 +3,6 @@ use Rattle.std.specs.Prelude.{◌≡◌, ℕ, List, [], ◌∷◌, Some, None, t
 use Rattle.std.specs.Fmt.{digits}
 use Rattle.shell_walks.specs.declared.tasks.Task.{Task}
 use Rattle.shell_walks.specs.declared.tasks.Task.TheVariants as task
-use Rattle.shell_commands.specs.Lines.{sync_storing}
 use Rattle.shell_telling.specs.Tally.{nothing_yet, with_visit}
 use Rattle.shell_telling.specs.Telling.{again_text, end_line, left_out_text, stopped_line, unsure_line}
 
@@ -23,7 +22,7 @@ pub one_done : with_visit nothing_yet (record { more = []; note = []; news = cod
 one_done = refl
 
 abbrev put_of : (local name : List ℕ) → Task
-put_of local name = task.Put local (name ∷ []) (sync_storing true)
+put_of local name = task.Put local (name ∷ []) (record { deep = true; changed_only = true; deletes = true; fresh = false; inner = false; id = None })
 
 pub put_goes_on : left_out_text 188 (again_text (Some (codes "/srv/u")) (put_of (codes "./tree") (codes "tree"))) ≡ codes "not begun: at least 188 more; to go on in lbfs shell: sync --delete /srv/u/tree /tree\n"
 unfolding digits

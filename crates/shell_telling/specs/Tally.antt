@@ -1,6 +1,6 @@
 -- What the tasks of a command came to.
 use Rattle.std.specs.Prelude.{ℕ, ◌+◌, ◌-◌, ◌^◌, ◌&&◌, ◌||◌, ◌==◌, List, Bool, min, length, nat_lt, true, count_by}
-use Rattle.shell_commands.specs.declared.visiting.Visited.{Visited}
+use Rattle.folder_tasks.specs.declared.visiting.Visited.{Visited}
 use Rattle.shell_telling.specs.declared.tally.Tally.{Tally}
 
 abbrev pub nothing_yet : Tally

@@ -3,7 +3,7 @@
 ghost use Rattle.std.specs.Prelude.{◌≡◌, true};
 ghost use Rattle.shell_telling.specs.Tally.{nothing_yet, lines_of, with_visit, capped_sum, is_told};
 
-use shell_commands::visiting::Visited;
+use folder_tasks::visiting::Visited;
 
 /// What tasks came to.
 #[derive(Clone, Copy)]

@@ -1,0 +1,5 @@
+pub mod Getting
+pub mod Putting
+pub mod Rows
+pub mod Tasks
+pub mod Visiting

@@ -1,6 +1,0 @@
-use Rattle.std.proofs.Common.{refl}
-use Rattle.shell_commands.proofs.Touching.{stayed}
-use Rattle.shell_commands.proofs.putting.put_deep.Goals as goal
-
-pub returns-else-storing-clause-touches : goal.returns-else-storing-clause-touches
-returns-else-storing-clause-touches g c = stayed _ _ _ refl

@@ -1,8 +1,0 @@
-use Rattle.shell_commands.proofs.Touching.{only_read}
-use Rattle.shell_commands.proofs.putting.put_file.Goals as goal
-
-pub returns-in-Ok-clause-touches : goal.returns-in-Ok-clause-touches
-returns-in-Ok-clause-touches g c = only_read _ _ _ _ c.read.ensures.read
-
-pub returns-in-Err-clause-touches : goal.returns-in-Err-clause-touches
-returns-in-Err-clause-touches g c = only_read _ _ _ _ c.read.ensures.read

@@ -1,6 +1,0 @@
-use Rattle.std.proofs.Common.{◌≡◌, ◌++◌, drop}
-use Rattle.shell_commands.specs.Visiting.{bad_names}
-use Rattle.shell_commands.proofs.unfit.bad_names.Given as goal
-
-abbrev pub invariant-loop-name : goal.invariant-loop-name
-invariant-loop-name l = l.note ++ bad_names l.folder (drop l.name-index l.names) ≡ bad_names l.folder l.names

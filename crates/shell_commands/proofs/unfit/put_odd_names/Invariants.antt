@@ -1,6 +1,0 @@
-use Rattle.std.proofs.Common.{◌≡◌, ◌++◌, drop}
-use Rattle.shell_commands.specs.Visiting.{odd_names}
-use Rattle.shell_commands.proofs.unfit.put_odd_names.Given as goal
-
-abbrev pub invariant-loop-name : goal.invariant-loop-name
-invariant-loop-name l = l.out ++ odd_names l.path (drop l.name-index l.names) ≡ l.initial.out ++ odd_names l.path l.names
