@@ -1,6 +1,6 @@
 //! A shell from its first connection to its end: its one command, or the lines of its input.
 
-ghost use Rattle.std.specs.Prelude.{◌≡◌, ◌≢◌, ◌≤◌, ◌⊎◌, [], IfOk, IfErr, IsErrOf, None, Ok, Err, false};
+ghost use Rattle.std.specs.Prelude.{◌≡◌, ◌≢◌, ◌≤◌, ◌⊎◌, [], IfOk, IfErr, IsErrOf, Ok, Err, false};
 ghost use Rattle.exit_status.specs.declared.shell_end.ShellEnd.TheVariants as ends;
 ghost use Rattle.lbfs_shell.specs.Caching.{Chooses, used_of};
 ghost use Rattle.lbfs_shell.specs.Ends.{SinkCause, HasCause, HasLeft, end_of};
@@ -8,9 +8,9 @@ ghost use Rattle.lbfs_shell.specs.Ends.{SinkCause, HasCause, HasLeft, end_of};
 use crate::caching::{Found, look, unsaved_words};
 use crate::crew::{Manner, run_line, run_task};
 use crate::help;
+use crate::lines::{About, command_of, line_of, say_mistake, say_undone, word_at_fault};
 use crate::outside::Outside;
 use crate::saying::{Flow, read_end, tell, write};
-use command_text::parts::first_part;
 use exit_status::shell_end::ShellEnd;
 use last_words::keeping::Keeps;
 use lb_base::items::{Items, Name};
@@ -21,20 +21,18 @@ use links::clock::Clock;
 use links::rest::Rest;
 use shell_commands::shell::{Shell, Went, mistaken};
 use shell_link::session::Session;
-use shell_telling::telling::{end_line, line_text, prompt_text};
+use shell_telling::telling::{end_line, prompt_text};
 use shell_walks::caching::{load, save};
 use shell_walks::dials::Dials;
 use shell_walks::folder::{Folder, Folders, LocalFault};
 use shell_walks::remote::Remote;
 use shell_walks::screen::Screen;
 use shell_walks::tasks::Task;
-use shell_walks::telling::{fault_words, mistake_words, note_line};
-use shell_words::command::{Line, Start, Verb, start_of, verb_of};
+use shell_walks::telling::{fault_words, note_line};
+use shell_words::command::{Line, Verb, verb_of};
 use shell_words::local::LocalPath;
 use shell_words::mistake::{Mistake, ReadError};
-use shell_words::path::copy_of;
 use shell_words::quoting::quoted;
-use shell_words::words::words_of;
 use std::alloc::{AllocError, Global};
 use std::sync::Wait;
 use std::thread::Threads;
@@ -236,106 +234,6 @@ where
     flow
 }
 
-/// The words that a line begins with, where it isn't read: as far as its first blank.
-fn front_words(alloc: Global, text: &[u8]) -> Result<Items<Name>, ReadError> {
-    let (front, _rest) = first_part(b' ', text);
-    match words_of(alloc, front) {
-        Ok(words) => Ok(words),
-        Err(ReadError::Mistaken(_)) => Ok(Items::new(alloc)),
-        Err(ReadError::Memory) => Err(ReadError::Memory),
-    }
-}
-
-/// The first of these words, if there is one.
-fn first_word(words: &[Name]) -> &[u8] {
-    match words.first() {
-        Some(word) => word.as_slice(),
-        None => b"",
-    }
-}
-
-/// The option that a command hasn't, where words say one.
-fn option_of(words: &[Name]) -> &[u8] {
-    let [first, rest @ ..] = words else {
-        return b"";
-    };
-    let Some(verb) = verb_of(first.as_slice()) else {
-        return b"";
-    };
-    match (start_of(verb, rest), rest) {
-        (Start::Option, [word, ..]) => word.as_slice(),
-        (Start::Known, [_, word, ..]) => word.as_slice(),
-        _ => b"",
-    }
-}
-
-/// The word at fault: the option that isn't there, else the first one.
-fn word_at_fault(words: &[Name], mistake: Mistake) -> &[u8] {
-    match mistake {
-        Mistake::BadOption => option_of(words),
-        _ => first_word(words),
-    }
-}
-
-/// What a line says; none where it says nothing. The word that is named where it isn't done goes to `named`.
-fn line_of(alloc: Global, text: &[u8], named: &mut Name) -> Result<Option<Line>, ReadError> {
-    let words = match words_of(alloc, text) {
-        Ok(words) => words,
-        Err(error) => {
-            let words = front_words(alloc, text)?;
-            *named = Name::copy_of(alloc, first_word(words.as_slice()))?;
-            return Err(error);
-        }
-    };
-    let read = command_of(alloc, words.as_slice());
-    let word = match &read {
-        Err(ReadError::Mistaken(mistake)) => word_at_fault(words.as_slice(), *mistake),
-        _ => first_word(words.as_slice()),
-    };
-    *named = Name::copy_of(alloc, word)?;
-    read
-}
-
-/// These words are said of a line whose first word is this, if any was read.
-fn say_of<P: Screen>(
-    alloc: Global,
-    screen: &P,
-    number: u64,
-    first: &[u8],
-    words: &[u8],
-) -> Result<Flow, ShellEnd>
-    ensures { IfErr result (λ e. e ≡ ends.Memory) }
-{
-    let Ok(about) = line_text(alloc, number, first) else {
-        return Err(ShellEnd::Memory);
-    };
-    match note_line(alloc, about.as_slice(), words) {
-        Ok(note) => {
-            screen.say(note.as_slice());
-            Ok(Flow::Undone)
-        }
-        Err(AllocError) => Err(ShellEnd::Memory),
-    }
-}
-
-/// What is said of a line that wasn't done, behind what is said of the names in it.
-const UNDONE: &[u8] = b"not done, or not wholly";
-
-/// Which line wasn't done is said, unless lines are typed.
-fn say_undone<P: Screen>(
-    alloc: Global,
-    screen: &P,
-    number: u64,
-    first: &[u8],
-) -> Result<Flow, ShellEnd>
-    ensures { IfErr result (λ e. e ≡ ends.Memory) }
-{
-    if screen.is_typed() {
-        return Ok(Flow::Undone);
-    }
-    say_of(alloc, screen, number, first, UNDONE)
-}
-
 /// A line of the input, numbered from 1.
 fn run_text<
     W: Threads + Wait + Sync,
@@ -363,17 +261,18 @@ where
     ensures cause { IfErr result (λ e. SinkCause (K.faults sink.old) (K.faults sink.new) e) }
     ensures later { K.faults sink.old ≤ K.faults sink.new }
 {
-    let mut first = Items::new(alloc);
-    match line_of(alloc, text, &mut first) {
+    let mut about = About {
+        number,
+        word: Items::new(alloc),
+        leads: false,
+    };
+    match line_of(alloc, text, &mut about) {
         Ok(Some(line)) => match run_command(rt, alloc, out, asked, seat, sink, &line) {
-            Ok(Flow::Undone) => say_undone(alloc, &out.screen, number, first.as_slice()),
+            Ok(Flow::Undone) => say_undone(alloc, &out.screen, &about),
             other => other,
         },
         Ok(None) => Ok(Flow::Done),
-        Err(ReadError::Mistaken(mistake)) => {
-            let words = mistake_words(mistake);
-            say_of(alloc, &out.screen, number, first.as_slice(), words)
-        }
+        Err(ReadError::Mistaken(mistake)) => say_mistake(alloc, &out.screen, &about, mistake),
         Err(ReadError::Memory) => Err(ShellEnd::Memory),
     }
 }
@@ -444,6 +343,7 @@ where
         match run_text(rt, alloc, out, asked, seat, sink, text.as_slice(), at + 1) {
             Ok(Flow::Done) => {}
             Ok(Flow::Undone) => is_fine = false,
+            Ok(Flow::Astray) => return ShellEnd::Undone,
             Ok(Flow::Bye) => return end_of(is_fine),
             Err(end) => return end,
         }
@@ -478,7 +378,7 @@ where
     ensures later { K.faults sink.old ≤ K.faults sink.new }
 {
     match run_command(rt, alloc, out, asked, seat, sink, line) {
-        Ok(Flow::Undone) => ShellEnd::Undone,
+        Ok(Flow::Undone | Flow::Astray) => ShellEnd::Undone,
         Ok(Flow::Done | Flow::Bye) => ShellEnd::Done,
         Err(end) => end,
     }
@@ -501,17 +401,6 @@ fn refuse<P: Screen, K: Sink>(
             Err(end) => end,
         },
         Err(AllocError) => ShellEnd::Memory,
-    }
-}
-
-/// What the words of a command say; none where there are none.
-#[tactic(auto, using(crate::proofs::Causes::said_nothing))]
-fn command_of(alloc: Global, words: &[Name]) -> Result<Option<Line>, ReadError>
-    ensures { result ≡ Ok None → words.now ≡ [] }
-{
-    match Line::read(copy_of(alloc, words)?) {
-        Ok(line) => Ok(line),
-        Err(mistake) => Err(ReadError::Mistaken(mistake)),
     }
 }
 
@@ -704,7 +593,7 @@ where
 {
     if matches!(line.verb, Verb::Help) {
         return match run_help(alloc, &out.screen, sink, line) {
-            Ok(Flow::Undone) => ShellEnd::Undone,
+            Ok(Flow::Undone | Flow::Astray) => ShellEnd::Undone,
             Ok(Flow::Done | Flow::Bye) => ShellEnd::Done,
             Err(end) => end,
         };

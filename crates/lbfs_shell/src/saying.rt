@@ -19,6 +19,8 @@ pub(crate) enum Flow {
     Done,
     /// It wasn't, and why was said.
     Undone,
+    /// Nor was it, and the lines behind it would be done where they aren't meant: none of them is begun.
+    Astray,
     /// The shell is to end.
     Bye,
 }

@@ -539,7 +539,7 @@ fn rename_new<R: Remote>(
     }
 }
 
-/// A directory gets a new name that nothing has. A file gets none that ends with a slash.
+/// A directory gets a new name that nothing has. A file gets none where a directory is wanted.
 fn move_new<R: Remote>(
     alloc: Global,
     remote: &mut R,

@@ -47,39 +47,42 @@ abbrev pub Names : (dir : List (List ℕ)) → (word : List ℕ) → Named → T
 Names dir word (named.Path path) = path_of dir word ≡ Ok path
 Names dir word (named.Mistaken told) = (m : Mistake) × (path_of dir word ≡ Err m) × (told ≡ mistaken_as word m)
 
--- ---- a slash at the end of a word: no file has the path
+-- ---- a word that ends with a slash, with `/.` or with `/..`: no file has the path
 
--- `/` names the root, which is there
-abbrev pub has_slash : (word : List ℕ) → Bool
-has_slash word = bytes_eq (drop (length word - 1) word) (codes "/") && not (bytes_eq word (codes "/"))
+abbrev pub ends_in : (tail word : List ℕ) → Bool
+ends_in tail word = bytes_eq (drop (length word - length tail) word) tail
+
+-- so does one that is `.` or `..`; `/` names the root, which is there
+abbrev pub says_dir : (word : List ℕ) → Bool
+says_dir word = not (bytes_eq word (codes "/")) && (ends_in (codes "/") word || ends_in (codes "/.") word || ends_in (codes "/..") word || bytes_eq word (codes ".") || bytes_eq word (codes ".."))
 
 -- a directory has it, or, unless that is a must, nothing does
-abbrev pub fits_slash : (must : Bool) → Answer → Bool
-fits_slash must (answer.Seen seen) = seen.is_dir
-fits_slash must a = not must && is_known a
+abbrev pub fits_dir : (must : Bool) → Answer → Bool
+fits_dir must (answer.Seen seen) = seen.is_dir
+fits_dir must a = not must && is_known a
 
-abbrev pub slashed_as : (fits : Bool) → (path : List (List ℕ)) → Answer → Named
-slashed_as true path looked = named.Path path
-slashed_as false path looked = named.Mistaken (directory_told path looked)
+abbrev pub dir_named : (fits : Bool) → (path : List (List ℕ)) → Answer → Named
+dir_named true path looked = named.Path path
+dir_named false path looked = named.Mistaken (directory_told path looked)
 
-pub record LooksSlash {R : Type 0} (asks : R → Command → Answer → R → Type 0) (old : R) (must : Bool) (path : List (List ℕ)) (n : Named) (new : R) : Type 0 where
+pub record LooksDir {R : Type 0} (asks : R → Command → Answer → R → Type 0) (old : R) (must : Bool) (path : List (List ℕ)) (n : Named) (new : R) : Type 0 where
   pub looked : Answer
   pub looks : AsksOn asks old (command_on deed.Look path) looked new
-  pub is : n ≡ slashed_as (fits_slash must looked) path looked
+  pub is : n ≡ dir_named (fits_dir must looked) path looked
 
-abbrev pub SlashIf : {R : Type 0} → (asks : R → Command → Answer → R → Type 0) → R → (has_slash must : Bool) → (path : List (List ℕ)) → Named → R → Type 0
-SlashIf asks old true must path n new = LooksSlash asks old must path n new
-SlashIf asks old false must path n new = (new ≡ old) × (n ≡ named.Path path)
+abbrev pub DirIf : {R : Type 0} → (asks : R → Command → Answer → R → Type 0) → R → (says_dir must : Bool) → (path : List (List ℕ)) → Named → R → Type 0
+DirIf asks old true must path n new = LooksDir asks old must path n new
+DirIf asks old false must path n new = (new ≡ old) × (n ≡ named.Path path)
 
-abbrev pub SlashOn : {R : Type 0} → (asks : R → Command → Answer → R → Type 0) → R → (has_slash must : Bool) → (at n : Named) → R → Type 0
-SlashOn asks old slash must (named.Path path) n new = SlashIf asks old slash must path n new
-SlashOn asks old slash must (named.Mistaken told) n new = (new ≡ old) × (n ≡ named.Mistaken told)
+abbrev pub DirOn : {R : Type 0} → (asks : R → Command → Answer → R → Type 0) → R → (says_dir must : Bool) → (at n : Named) → R → Type 0
+DirOn asks old says must (named.Path path) n new = DirIf asks old says must path n new
+DirOn asks old says must (named.Mistaken told) n new = (new ≡ old) × (n ≡ named.Mistaken told)
 
--- the path that a word names, by one look where a slash ends it
+-- the path that a word names, by one look where it says that a directory has it
 pub record NamesAt {R : Type 0} (asks : R → Command → Answer → R → Type 0) (old : R) (dir : List (List ℕ)) (must : Bool) (word : List ℕ) (n : Named) (new : R) : Type 0 where
   pub at : Named
   pub names : Names dir word at
-  pub goes_on : SlashOn asks old (has_slash word) must at n new
+  pub goes_on : DirOn asks old (says_dir word) must at n new
 
 -- ---- cd: to what is told to be a directory
 
@@ -111,7 +114,7 @@ RemovesIf asks content old false option path told new = OnPath asks content old 
 -- ---- mv: its second path is named by a word, too
 
 pub data MovesTo {R : Type 0} (asks : R → Command → Answer → R → Type 0) (old : R) (dir from : List (List ℕ)) (word : List ℕ) (told : Told) (new : R) : Type 0 where
-  named_so : (to : List (List ℕ)) → path_of dir word ≡ Ok to → Moves asks old (has_slash word) from to told new → MovesTo asks old dir from word told new
+  named_so : (to : List (List ℕ)) → path_of dir word ≡ Ok to → Moves asks old (says_dir word) from to told new → MovesTo asks old dir from word told new
   mistaken_so : (m : Mistake) → path_of dir word ≡ Err m → told ≡ mistaken_as word m → new ≡ old → MovesTo asks old dir from word told new
 
 -- ---- get: a task, and the folder that it writes to is cleared
@@ -144,9 +147,9 @@ sync_storing deletes = record { deep = true; changed_only = true; deletes = dele
 
 -- ---- which path of the server a put stores to
 
--- whether a directory is wanted at the path: a slash ends the word, and LOCAL is a file
+-- whether a directory is wanted at the path: the word says so, and LOCAL is a file
 abbrev pub wants_dir : (is_folder : Bool) → (word : List ℕ) → Bool
-wants_dir is_folder word = not is_folder && has_slash word
+wants_dir is_folder word = not is_folder && says_dir word
 
 -- into the directory that has the path, and else at the path
 abbrev pub target_if : (is_dir : Bool) → (path : List (List ℕ)) → (last : List ℕ) → List (List ℕ)
@@ -202,7 +205,7 @@ pub record PutsTo {R : Type 0} (asks : R → Command → Answer → R → Type 0
   pub targets : Targets asks old dir is_folder (operand_of line 1) (last_of (operand_of line 0)) target between
   pub goes_on : Stores asks between local target (put_storing line.has_option) w new
 
--- a sync stores to the path itself; LOCAL itself, where it is a file, takes no directory's place, and no name that ends with a slash
+-- a sync stores to the path itself; LOCAL itself, where it is a file, takes no directory's place, and no name that ends so
 pub record SyncsTo {R : Type 0} (asks : R → Command → Answer → R → Type 0) (old : R) (dir : List (List ℕ)) (line : Line) (local : List ℕ) (is_folder : Bool) (w : Went) (new : R) : Type 0 where
   pub target : Named
   pub between : R

@@ -7,7 +7,7 @@ use Rattle.shell_walks.specs.declared.remote.Answer.{Answer}
 use Rattle.shell_walks.specs.declared.remote.Answer.TheVariants as answer
 use Rattle.shell_walks.specs.declared.remote.Why.TheVariants as why
 use Rattle.shell_commands.specs.Here.{got_as, is_into, local_in, name_got, plain, source_as}
-use Rattle.shell_commands.specs.Lines.{fits_slash, has_slash, is_fit, is_over, stood_in, slashed_as, target_as, wants_dir}
+use Rattle.shell_commands.specs.Lines.{fits_dir, says_dir, is_fit, is_over, stood_in, dir_named, target_as, wants_dir}
 use Rattle.shell_commands.specs.declared.here.NamedLocal.TheVariants as namedlocal
 use Rattle.shell_commands.specs.declared.here.Source.TheVariants as source
 use Rattle.shell_commands.specs.declared.shell.Named.TheVariants as named
@@ -68,37 +68,59 @@ no_directory = refl
 pub no_slash_behind : target_as (is_fit false (answer.Failed (why.Refused 2))) (codes "nw" ∷ []) (codes "f") (answer.Failed (why.Refused 2)) ≡ named.Path (codes "nw" ∷ [])
 no_slash_behind = refl
 
--- ---- a slash at the end of a word
+-- ---- a word that says that a directory has its path
 
-pub it_ends_so : has_slash (codes "m/two/") ≡ true
+pub it_ends_in_a_dot : says_dir (codes "m/two/.") ≡ true
+it_ends_in_a_dot = refl
+
+pub it_ends_in_two : says_dir (codes "m/two/x/..") ≡ true
+it_ends_in_two = refl
+
+pub one_dot : says_dir (codes ".") ≡ true
+one_dot = refl
+
+pub two_dots : says_dir (codes "..") ≡ true
+two_dots = refl
+
+-- a name that begins or ends with dots is a name
+pub a_name_with_a_dot : says_dir (codes "m/two.") ≡ false
+a_name_with_a_dot = refl
+
+pub a_hidden_name : says_dir (codes "m/.two") ≡ false
+a_hidden_name = refl
+
+pub three_dots : says_dir (codes "m/...") ≡ false
+three_dots = refl
+
+pub it_ends_so : says_dir (codes "m/two/") ≡ true
 it_ends_so = refl
 
-pub it_ends_otherwise : has_slash (codes "m/two") ≡ false
+pub it_ends_otherwise : says_dir (codes "m/two") ≡ false
 it_ends_otherwise = refl
 
-pub the_root_is_there : has_slash (codes "/") ≡ false
+pub the_root_is_there : says_dir (codes "/") ≡ false
 the_root_is_there = refl
 
-pub no_word : has_slash [] ≡ false
+pub no_word : says_dir [] ≡ false
 no_word = refl
 
 abbrev a_thing : (is_dir : Bool) → Answer
 a_thing d = answer.Seen (record { id = 5; is_dir = d; version = 2; len = 6 })
 
-pub a_directory_has_it : slashed_as (fits_slash true (a_thing true)) (codes "d" ∷ []) (a_thing true) ≡ named.Path (codes "d" ∷ [])
+pub a_directory_has_it : dir_named (fits_dir true (a_thing true)) (codes "d" ∷ []) (a_thing true) ≡ named.Path (codes "d" ∷ [])
 a_directory_has_it = refl
 
-pub a_file_has_it : slashed_as (fits_slash false (a_thing false)) (codes "f" ∷ []) (a_thing false) ≡ named.Mistaken (record { text = []; note = codes "/f: not a directory\n" })
+pub a_file_has_it : dir_named (fits_dir false (a_thing false)) (codes "f" ∷ []) (a_thing false) ≡ named.Mistaken (record { text = []; note = codes "/f: not a directory\n" })
 a_file_has_it = refl
 
 -- a mkdir makes it, and a file that a sync stores gets no such name
-pub nothing_has_it : slashed_as (fits_slash false (answer.Failed (why.Refused 2))) (codes "nw" ∷ []) (answer.Failed (why.Refused 2)) ≡ named.Path (codes "nw" ∷ [])
+pub nothing_has_it : dir_named (fits_dir false (answer.Failed (why.Refused 2))) (codes "nw" ∷ []) (answer.Failed (why.Refused 2)) ≡ named.Path (codes "nw" ∷ [])
 nothing_has_it = refl
 
-pub a_file_is_no_directory : slashed_as (fits_slash true (answer.Failed (why.Refused 2))) (codes "nw" ∷ []) (answer.Failed (why.Refused 2)) ≡ named.Mistaken (record { text = []; note = codes "/nw: no such file or directory\n" })
+pub a_file_is_no_directory : dir_named (fits_dir true (answer.Failed (why.Refused 2))) (codes "nw" ∷ []) (answer.Failed (why.Refused 2)) ≡ named.Mistaken (record { text = []; note = codes "/nw: no such file or directory\n" })
 a_file_is_no_directory = refl
 
-pub the_look_is_lost : fits_slash false (answer.Failed why.Cut) ≡ false
+pub the_look_is_lost : fits_dir false (answer.Failed why.Cut) ≡ false
 the_look_is_lost = refl
 
 -- rm -r in /a/b: that, what it is in, and the root stay; beside them and below it nothing does

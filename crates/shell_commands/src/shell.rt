@@ -5,7 +5,7 @@ ghost use Rattle.std.specs.Prelude.{◌≡◌, ◌++◌, codes, IfOk, OnOk};
 ghost use Rattle.shell_words.specs.Paths.{above};
 ghost use Rattle.shell_walks.specs.Telling.{fine, path_text};
 ghost use Rattle.shell_commands.specs.Here.{IsFolderOf, is_name_here, name_got};
-ghost use Rattle.shell_commands.specs.Lines.{mistaken_as, operand_of, Names, has_slash, fits_slash, slashed_as, LooksSlash, SlashIf, NamesAt, gone_to, Goes, is_over, stood_in, RemovesIf, MovesTo, GetsInto, Gets, name_into, GetsIf, put_storing, sync_storing};
+ghost use Rattle.shell_commands.specs.Lines.{mistaken_as, operand_of, Names, says_dir, fits_dir, dir_named, LooksDir, DirIf, NamesAt, gone_to, Goes, is_over, stood_in, RemovesIf, MovesTo, GetsInto, Gets, name_into, GetsIf, put_storing, sync_storing};
 ghost use Rattle.shell_commands.specs.Lines.{wants_dir, target_if, is_fit, target_as, LooksTarget, TargetsIf, Targets, task_as, StoresTo, Stores};
 ghost use Rattle.shell_commands.specs.Lines.{PutsTo, SyncsTo, PutsFrom, SyncsFrom, RunsPut, RunsSync, DoesPath, DoesNamed, RunsNamed, Runs, KeepsFolder, StandsFirst};
 
@@ -85,16 +85,28 @@ fn path_named(alloc: Global, dir: &[Name], word: &[u8]) -> Result<Named, AllocEr
     }
 }
 
-/// Whether a slash ends a word, other than the root's.
-fn has_slash(word: &[u8]) -> bool
-    ensures { result ≡ has_slash word.now }
+/// Whether a word ends so.
+fn ends_in(tail: &[u8], word: &[u8]) -> bool
+    ensures { result ≡ ends_in tail.now word.now }
 {
-    is(&word[word.len().saturating_sub(1)..], b"/") && !is(word, b"/")
+    is(&word[word.len().saturating_sub(tail.len())..], tail)
 }
 
-/// Whether what a look told may have a path whose word ends with a slash.
-fn fits_slash(must: bool, looked: &Answer) -> bool
-    ensures { result ≡ fits_slash must looked.now }
+/// Whether a word says that a directory has its path. The root, which is there, needs no look.
+fn says_dir(word: &[u8]) -> bool
+    ensures { result ≡ says_dir word.now }
+{
+    !is(word, b"/")
+        && (ends_in(b"/", word)
+            || ends_in(b"/.", word)
+            || ends_in(b"/..", word)
+            || is(word, b".")
+            || is(word, b".."))
+}
+
+/// Whether what a look told may have a path whose word says that a directory has it.
+fn fits_dir(must: bool, looked: &Answer) -> bool
+    ensures { result ≡ fits_dir must looked.now }
 {
     match looked {
         Answer::Seen(seen) => seen.is_dir,
@@ -103,8 +115,8 @@ fn fits_slash(must: bool, looked: &Answer) -> bool
 }
 
 /// The path by what a look told.
-fn slashed_as(alloc: Global, fits: bool, path: Path, looked: &Answer) -> Result<Named, AllocError>
-    ensures { IfOk result (λ n. n ≡ slashed_as fits path looked.now) }
+fn dir_named(alloc: Global, fits: bool, path: Path, looked: &Answer) -> Result<Named, AllocError>
+    ensures { IfOk result (λ n. n ≡ dir_named fits path looked.now) }
 {
     if fits {
         Ok(Named::Path(path))
@@ -114,37 +126,37 @@ fn slashed_as(alloc: Global, fits: bool, path: Path, looked: &Answer) -> Result<
     }
 }
 
-/// What stands at a path whose word ends with a slash is looked at.
-fn look_slash<R: Remote>(
+/// What stands at such a path is looked at.
+fn look_dir<R: Remote>(
     alloc: Global,
     remote: &mut R,
     must: bool,
     path: Path,
 ) -> Result<Named, AllocError>
-    ensures { IfOk result (λ n. LooksSlash R.asks remote.old must path n remote.new) }
+    ensures { IfOk result (λ n. LooksDir R.asks remote.old must path n remote.new) }
 {
     let looked = ask_on(alloc, remote, Deed::Look, path.as_slice())?;
-    slashed_as(alloc, fits_slash(must, &looked), path, &looked)
+    dir_named(alloc, fits_dir(must, &looked), path, &looked)
 }
 
-/// The same, where a slash ends the word.
-fn slash_if<R: Remote>(
+/// The same, where the word says so.
+fn dir_if<R: Remote>(
     alloc: Global,
     remote: &mut R,
-    has_slash: bool,
+    says_dir: bool,
     must: bool,
     path: Path,
 ) -> Result<Named, AllocError>
-    ensures { IfOk result (λ n. SlashIf R.asks remote.old has_slash must path n remote.new) }
+    ensures { IfOk result (λ n. DirIf R.asks remote.old says_dir must path n remote.new) }
 {
-    if has_slash {
-        look_slash(alloc, remote, must, path)
+    if says_dir {
+        look_dir(alloc, remote, must, path)
     } else {
         Ok(Named::Path(path))
     }
 }
 
-/// The path that a word names: where a slash ends it no file has that, and where it must be a directory does.
+/// The path that a word names: where it says that a directory has it no file does, and where it must be one does.
 fn name_at<R: Remote>(
     alloc: Global,
     remote: &mut R,
@@ -155,7 +167,7 @@ fn name_at<R: Remote>(
     ensures { IfOk result (λ n. NamesAt R.asks remote.old dir.now must word.now n remote.new) }
 {
     match path_named(alloc, dir, word)? {
-        Named::Path(path) => slash_if(alloc, remote, has_slash(word), must, path),
+        Named::Path(path) => dir_if(alloc, remote, says_dir(word), must, path),
         Named::Mistaken(told) => Ok(Named::Mistaken(told)),
     }
 }
@@ -233,7 +245,7 @@ fn move_named<R: Remote>(
     ensures { IfOk result (λ told. MovesTo R.asks remote.old dir.now from.now word.now told remote.new) }
 {
     match path_named(alloc, dir, word)? {
-        Named::Path(to) => move_to(alloc, remote, has_slash(word), from, to),
+        Named::Path(to) => move_to(alloc, remote, says_dir(word), from, to),
         Named::Mistaken(told) => Ok(told),
     }
 }
@@ -248,11 +260,11 @@ fn folder_of(path: &str) -> &str
     }
 }
 
-/// Whether a directory is wanted at the path: a slash ends the word, and a file is stored.
+/// Whether a directory is wanted at the path: the word says so, and a file is stored.
 fn wants_dir(is_folder: bool, word: &[u8]) -> bool
     ensures { result ≡ wants_dir is_folder word.now }
 {
-    !is_folder && has_slash(word)
+    !is_folder && says_dir(word)
 }
 
 /// The path that something is stored to: in a directory, under its own name, and else at the path.
