@@ -94,6 +94,7 @@ new_comes asks content finds writes makes tries clears old new h h' path local d
 kind_comes : {R F : Type 0} (asks : R → Command → Answer → R → Type 0) (content : R → ℕ → List ℕ) (offers : R → List ℕ → R → Type 0) (finds : F → Bool → List ℕ → Kind → F → Type 0) (reads : F → List ℕ → Result (List ℕ) LocalFault → F → Type 0) (writes : F → List ℕ → List ℕ → Result Unit LocalFault → F → Type 0) (makes tries : F → List ℕ → Result Unit LocalFault → F → Type 0) (clears : F → List ℕ → F → Type 0) (old new : R) (h h' : F) (path : List (List ℕ)) (local : List ℕ) (deep : Bool) (id : Option ℕ) (v : Visited) (kind : Kind) → GetsKind asks content offers finds reads writes makes tries clears old h kind path local deep id v new h' → Got_so asks content writes tries id path local deep v
 kind_comes asks content offers finds reads writes makes tries clears old new h h' path local deep id v kinds.Folder k = uncounted asks content writes tries path local deep id v (into_fine asks finds makes clears old new h h' path local deep id v deep k)
 kind_comes asks content offers finds reads writes makes tries clears old new h h' path local deep id v kinds.File k = file_comes asks content finds writes makes tries clears k.between new k.here h' path local deep id v k.goes_on
+kind_comes asks content offers finds reads writes makes tries clears old new h h' path local deep id v (kinds.Hidden fault) k = uncounted asks content writes tries path local deep id v (none_fine (task.Get path local deep id) v _ k.2 refl refl)
 kind_comes asks content offers finds reads writes makes tries clears old new h h' path local deep id v kind k = new_comes asks content finds writes makes tries clears old new h h' path local deep id v (makes_folder deep local) k
 
 pub at_comes : {R F : Type 0} (asks : R → Command → Answer → R → Type 0) (content : R → ℕ → List ℕ) (offers : R → List ℕ → R → Type 0) (finds : F → Bool → List ℕ → Kind → F → Type 0) (reads : F → List ℕ → Result (List ℕ) LocalFault → F → Type 0) (writes : F → List ℕ → List ℕ → Result Unit LocalFault → F → Type 0) (makes tries : F → List ℕ → Result Unit LocalFault → F → Type 0) (clears : F → List ℕ → F → Type 0) (old new : R) (h h' : F) (path : List (List ℕ)) (local : List ℕ) (deep : Bool) (id : Option ℕ) (v : Visited) (b : Bool) → GetsUnless asks content offers finds reads writes makes tries clears old h b path local deep id v new h' → Got_so asks content writes tries id path local deep v
@@ -141,6 +142,7 @@ new_touches asks content finds reads writes lists makes tries clears old new h h
 kind_touches : {R F : Type 0} (asks : R → Command → Answer → R → Type 0) (content : R → ℕ → List ℕ) (offers : R → List ℕ → R → Type 0) (finds : F → Bool → List ℕ → Kind → F → Type 0) (reads : F → List ℕ → Result (List ℕ) LocalFault → F → Type 0) (writes : F → List ℕ → List ℕ → Result Unit LocalFault → F → Type 0) (lists : F → List ℕ → Result (List (List ℕ)) LocalFault → F → Type 0) (makes tries : F → List ℕ → Result Unit LocalFault → F → Type 0) (clears : F → List ℕ → F → Type 0) (old new : R) (h h' : F) (path : List (List ℕ)) (local : List ℕ) (deep : Bool) (id : Option ℕ) (v : Visited) (kind : Kind) → GetsKind asks content offers finds reads writes makes tries clears old h kind path local deep id v new h' → Touches finds reads writes lists makes tries clears local h h'
 kind_touches asks content offers finds reads writes lists makes tries clears old new h h' path local deep id v kinds.Folder k = into_touches asks finds reads writes lists makes tries clears old new h h' path local v deep k
 kind_touches asks content offers finds reads writes lists makes tries clears old new h h' path local deep id v kinds.File k = both local h k.here h' (only_read local k.first.bytes h k.here k.first.read) (file_touches asks content finds reads writes lists makes tries clears k.between new k.here h' path local deep id v k.goes_on)
+kind_touches asks content offers finds reads writes lists makes tries clears old new h h' path local deep id v (kinds.Hidden fault) k = stayed local h h' k.1
 kind_touches asks content offers finds reads writes lists makes tries clears old new h h' path local deep id v kind k = new_touches asks content finds reads writes lists makes tries clears old new h h' path local deep id v (makes_folder deep local) k
 
 pub at_touches : {R F : Type 0} (asks : R → Command → Answer → R → Type 0) (content : R → ℕ → List ℕ) (offers : R → List ℕ → R → Type 0) (finds : F → Bool → List ℕ → Kind → F → Type 0) (reads : F → List ℕ → Result (List ℕ) LocalFault → F → Type 0) (writes : F → List ℕ → List ℕ → Result Unit LocalFault → F → Type 0) (lists : F → List ℕ → Result (List (List ℕ)) LocalFault → F → Type 0) (makes tries : F → List ℕ → Result Unit LocalFault → F → Type 0) (clears : F → List ℕ → F → Type 0) (old new : R) (h h' : F) (path : List (List ℕ)) (local : List ℕ) (deep : Bool) (id : Option ℕ) (v : Visited) (b : Bool) → GetsUnless asks content offers finds reads writes makes tries clears old h b path local deep id v new h' → Touches finds reads writes lists makes tries clears local h h'

@@ -157,7 +157,7 @@ abbrev pub GetsInto : {R F : Type 0} → (asks : R → Command → Answer → R 
 GetsInto asks finds makes clears old host true path local v new host' = GetsDirectory asks finds makes clears old host path local v new host'
 GetsInto asks finds makes clears old host false path local v new host' = (host' ≡ host) × NotInto asks old path local v new
 
--- where nothing stands: a directory, to a folder of this path, where a slash asks for that
+-- where nothing stands (what can't be looked at may be there): a directory, to a folder of this path, where a slash asks for that
 abbrev pub makes_folder : (deep : Bool) → (local : List ℕ) → Bool
 makes_folder deep local = deep && is_slashed local
 
@@ -168,6 +168,7 @@ GetsNew asks content finds writes makes tries clears old host false path local d
 abbrev pub GetsKind : {R F : Type 0} → (asks : R → Command → Answer → R → Type 0) → (content : R → ℕ → List ℕ) → (offers : R → List ℕ → R → Type 0) → (finds : F → Bool → List ℕ → Kind → F → Type 0) → (reads : F → List ℕ → Result (List ℕ) LocalFault → F → Type 0) → (writes : F → List ℕ → List ℕ → Result Unit LocalFault → F → Type 0) → (makes tries : F → List ℕ → Result Unit LocalFault → F → Type 0) → (clears : F → List ℕ → F → Type 0) → R → F → Kind → (path : List (List ℕ)) → (local : List ℕ) → (deep : Bool) → Option ℕ → Visited → R → F → Type 0
 GetsKind asks content offers finds reads writes makes tries clears old host kinds.Folder path local deep id v new host' = GetsInto asks finds makes clears old host deep path local v new host'
 GetsKind asks content offers finds reads writes makes tries clears old host kinds.File path local deep id v new host' = GetsOver asks content offers finds reads writes makes tries clears old host path local deep id v new host'
+GetsKind asks content offers finds reads writes makes tries clears old host (kinds.Hidden fault) path local deep id v new host' = Ends old host v (faulty_as local fault) new host'
 GetsKind asks content offers finds reads writes makes tries clears old host k path local deep id v new host' = GetsNew asks content finds writes makes tries clears old host (makes_folder deep local) path local deep id v new host'
 
 pub record GetsFound {R F : Type 0} (asks : R → Command → Answer → R → Type 0) (content : R → ℕ → List ℕ) (offers : R → List ℕ → R → Type 0) (finds : F → Bool → List ℕ → Kind → F → Type 0) (reads : F → List ℕ → Result (List ℕ) LocalFault → F → Type 0) (writes : F → List ℕ → List ℕ → Result Unit LocalFault → F → Type 0) (makes tries : F → List ℕ → Result Unit LocalFault → F → Type 0) (clears : F → List ℕ → F → Type 0) (old : R) (host : F) (path : List (List ℕ)) (local : List ℕ) (deep : Bool) (id : Option ℕ) (v : Visited) (new : R) (host' : F) : Type 0 where

@@ -433,6 +433,7 @@ fn get_found<R: Remote, F: Folder>(
     match folder.kind(local, true) {
         Kind::Folder => get_into(alloc, remote, folder, deep, path, local),
         Kind::File => get_over(alloc, remote, folder, id, path, local, deep),
+        Kind::Hidden(fault) => faulty(alloc, local, fault),
         _ => {
             let is_folder = makes_folder(deep, local);
             get_new(alloc, remote, folder, id, path, local, deep, is_folder)

@@ -166,7 +166,8 @@ fn names_in(alloc: Global, listing: &[u8]) -> Result<Items<Name>, AllocError> {
     Ok(names)
 }
 
-/// The names in a folder, each ended by a NUL.
+/// The names in a folder, each ended by a NUL. One that is removed meanwhile lists as if it were empty: it is looked
+/// at once more, so that nobody takes it for that.
 fn read_names<R: HostDisk>(rt: &R, alloc: Global, path: &str) -> Result<Vec<u8>, LocalFault> {
     let folder = match format!(in alloc; "{path}/") {
         Ok(folder) => folder,
@@ -178,7 +179,10 @@ fn read_names<R: HostDisk>(rt: &R, alloc: Global, path: &str) -> Result<Vec<u8>,
     };
     let mut source = StreamSource::new(dir);
     match read_all(alloc, LISTING_MOST, &mut source) {
-        Ok(listing) => Ok(listing),
+        Ok(listing) => match rt.metadata(folder.as_str()) {
+            Ok(_) => Ok(listing),
+            Err(error) => Err(fault_of(&error)),
+        },
         Err(ReadError::Memory) => Err(LocalFault::Memory),
         Err(ReadError::TooLong | ReadError::Fault) => Err(LocalFault::Failed),
     }
@@ -264,8 +268,10 @@ impl<'a, R: HostDisk + HostTime + Eprint> Folder for HostFolder<'a, R> {
         match make_beside(&self.rt, alloc, &target, shell, &mut self.number) {
             Ok((beside, file)) => {
                 drop(file);
-                let _gone = fs::remove_file(&self.rt, beside.as_str());
-                Ok(())
+                match fs::remove_file(&self.rt, beside.as_str()) {
+                    Ok(()) => Ok(()),
+                    Err(error) => Err(unwritten(&error)),
+                }
             }
             Err(error) => Err(unwritten(&error)),
         }

@@ -247,11 +247,16 @@ abbrev pub DoesNamed : {R F : Type 0} → (asks : R → Command → Answer → R
 DoesNamed asks content finds clears line folder dir (named.Path path) old host w new host' dir' = DoesPath asks content finds clears line.verb line folder dir path old host w new host' dir'
 DoesNamed asks content finds clears line folder dir (named.Mistaken told) old host w new host' dir' = (w ≡ went.Told told) × (new ≡ old) × (host' ≡ host) × (dir' ≡ dir)
 
+-- mkdir alone wants a path that nothing has
+abbrev pub is_mkdir : Verb → Bool
+is_mkdir verb.Mkdir = true
+is_mkdir v = false
+
 -- a command whose first word is a path of the server
 pub record RunsNamed {R F : Type 0} (asks : R → Command → Answer → R → Type 0) (content : R → ℕ → List ℕ) (finds : F → Bool → List ℕ → Kind → F → Type 0) (clears : F → List ℕ → F → Type 0) (line : Line) (folder : List ℕ) (dir : List (List ℕ)) (old : R) (host : F) (w : Went) (new : R) (host' : F) (dir' : List (List ℕ)) : Type 0 where
   pub at : Named
   pub between : R
-  pub names : NamesAt asks old dir false (operand_of line 0) at between
+  pub names : NamesAt asks old dir (not (is_mkdir line.verb)) (operand_of line 0) at between
   pub goes_on : DoesNamed asks content finds clears line folder dir at between host w new host' dir'
 
 abbrev pub RunsAs : {R F : Type 0} → (asks : R → Command → Answer → R → Type 0) → (content : R → ℕ → List ℕ) → (finds : F → Bool → List ℕ → Kind → F → Type 0) → (clears : F → List ℕ → F → Type 0) → Verb → Line → (here : Option (List ℕ)) → (folder : List ℕ) → (dir : List (List ℕ)) → R → F → Went → R → F → (folder' : List ℕ) → (dir' : List (List ℕ)) → Type 0

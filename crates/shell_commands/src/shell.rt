@@ -7,7 +7,7 @@ ghost use Rattle.shell_walks.specs.Telling.{fine, path_text};
 ghost use Rattle.shell_commands.specs.Here.{IsFolderOf, is_name_here, name_got};
 ghost use Rattle.shell_commands.specs.Lines.{mistaken_as, operand_of, Names, says_dir, fits_dir, dir_named, LooksDir, DirIf, NamesAt, gone_to, Goes, is_over, stood_in, RemovesIf, MovesTo, GetsInto, Gets, name_into, GetsIf, put_storing, sync_storing};
 ghost use Rattle.shell_commands.specs.Lines.{wants_dir, target_if, is_fit, target_as, LooksTarget, TargetsIf, Targets, task_as, StoresTo, Stores};
-ghost use Rattle.shell_commands.specs.Lines.{PutsTo, SyncsTo, PutsFrom, SyncsFrom, RunsPut, RunsSync, DoesPath, DoesNamed, RunsNamed, Runs, KeepsFolder, StandsFirst};
+ghost use Rattle.shell_commands.specs.Lines.{PutsTo, SyncsTo, PutsFrom, SyncsFrom, RunsPut, RunsSync, DoesPath, DoesNamed, is_mkdir, RunsNamed, Runs, KeepsFolder, StandsFirst};
 
 use crate::here::{
     NamedLocal, Source, find_source, got, has_word, is_name_here, lcd, name_below, name_got,
@@ -578,6 +578,13 @@ fn gets_if<F: Folder>(
     }
 }
 
+/// Whether a command wants a path that nothing has.
+fn is_mkdir(verb: Verb) -> bool
+    ensures { result ≡ is_mkdir verb }
+{
+    matches!(verb, Verb::Mkdir)
+}
+
 impl Shell {
     /// A shell at the server's root, and in the folder that the program runs in, which is this one, where it is known.
     pub fn new(alloc: Global, here: &Option<LocalPath>) -> Result<Shell, AllocError>
@@ -709,7 +716,8 @@ impl Shell {
         ensures folder { self.new.folder ≡ self.old.folder }
         ensures here { self.new.here ≡ self.old.here }
     {
-        let at = name_at(alloc, remote, self.dir.as_slice(), false, operand(line, 0))?;
+        let must = !is_mkdir(line.verb);
+        let at = name_at(alloc, remote, self.dir.as_slice(), must, operand(line, 0))?;
         self.run_at(alloc, remote, host, line, at)
     }
 
