@@ -71,7 +71,7 @@ bad_names folder (name ∷ names) = bad_more folder name ++ bad_names folder nam
 
 -- of those in a directory, which stay, by their paths at the server
 abbrev pub odd_text : (name : List ℕ) → List ℕ
-odd_text name = if is_temporary name then fault_text faults.LeftOver else codes "it stays: no file here can have this name"
+odd_text name = if is_temporary name then fault_text faults.LeftOver else if is_component name then codes "it stays: a name here has to be UTF-8 for this program" else codes "it stays: no file here can have this name"
 
 abbrev pub odd_name : (path : List (List ℕ)) → (name : List ℕ) → List ℕ
 odd_name path name = note_line (path_text (path ++ name ∷ [])) (odd_text name)

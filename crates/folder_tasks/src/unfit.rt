@@ -67,6 +67,8 @@ fn odd_words(name: &[u8]) -> &'static [u8]
 {
     if is_temporary(name) {
         fault_words(LocalFault::LeftOver)
+    } else if is_component(name) {
+        b"it stays: a name here has to be UTF-8 for this program"
     } else {
         b"it stays: no file here can have this name"
     }

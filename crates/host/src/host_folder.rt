@@ -120,7 +120,7 @@ fn fetched_at<R: HostDisk>(
 ) -> Result<Target, LocalFault> {
     let target = target_at(rt, alloc, path, cache)?;
     match cache {
-        Some(cache) if target.is_at(rt, alloc, cache) => Err(LocalFault::BadName),
+        Some(cache) if target.is_at(rt, alloc, cache) => Err(LocalFault::Cache),
         _ => Ok(target),
     }
 }

@@ -130,16 +130,25 @@ fn place_of<R: HostDisk>(rt: &R, alloc: Global, path: &str) -> io::Result<String
     Ok(place)
 }
 
+/// The last name of a path.
+fn last_name(path: &str) -> &str {
+    match path.rsplit_once('/') {
+        Some((_folder, name)) => name,
+        None => path,
+    }
+}
+
 impl Target {
-    /// Whether it is what this path leads to, by whatever names. Where that can't be told it isn't.
+    /// Whether it is what this path leads to, by whatever names. Where that can't be told it may be, under that name.
     pub(crate) fn is_at<R: HostDisk>(&self, rt: &R, alloc: Global, path: &str) -> bool {
+        let own = self.path.as_str();
         let Ok(led) = led_to(rt, alloc, path) else {
-            return false;
+            return last_name(own) == last_name(path);
         };
-        let own = place_of(rt, alloc, self.path.as_str());
-        match (own, place_of(rt, alloc, led.as_str())) {
+        let other = led.as_str();
+        match (place_of(rt, alloc, own), place_of(rt, alloc, other)) {
             (Ok(own), Ok(other)) => own == other,
-            _ => false,
+            _ => last_name(own) == last_name(other),
         }
     }
 

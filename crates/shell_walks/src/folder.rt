@@ -31,6 +31,8 @@ pub enum LocalFault {
     TooBig,
     /// The name can't be one of this host's.
     BadName,
+    /// It is the cache file, to which nothing is fetched.
+    Cache,
     /// The name is no UTF-8, in which alone this host's files are asked for.
     NotText,
     /// It is a symbolic link, and those aren't followed there.

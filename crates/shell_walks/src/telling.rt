@@ -135,6 +135,7 @@ pub fn fault_words(fault: LocalFault) -> &'static [u8]
         LocalFault::Full => b"the disk here is full",
         LocalFault::TooBig => b"the file is too large (64 MiB are the most)",
         LocalFault::BadName => b"no file here can have this name",
+        LocalFault::Cache => b"it is the cache file here (name another one)",
         LocalFault::NotText => b"a name here has to be UTF-8 for this program",
         LocalFault::Link => b"it is a symbolic link in a folder, and isn't followed",
         LocalFault::Nowhere => b"it is a symbolic link to nothing here",
