@@ -16,9 +16,10 @@ use shell_commands::shell::{Shell, Went};
 use shell_link::session::Session;
 use shell_telling::tally::Tally;
 use shell_telling::telling::unsure_line;
+use shell_walks::asking::{Deed, ask_on};
 use shell_walks::dials::Dials;
 use shell_walks::folder::{Folder, Folders};
-use shell_walks::remote::Remote;
+use shell_walks::remote::{Answer, Remote};
 use shell_walks::screen::Screen;
 use shell_walks::tasks::Task;
 use shell_words::command::{Line, Verb};
@@ -105,7 +106,13 @@ fn work<W: Wait, P: Screen + Keeps, R: Remote, F: Folder>(
     }
 }
 
-/// Does tasks on a connection of its own.
+/// Whether a connection can be had for a client, by a look at the root. A server has room for so many, and shuts what
+/// is above: a task would fail there that another thread can do.
+fn is_joined<R: Remote>(alloc: Global, remote: &mut R) -> bool {
+    matches!(ask_on(alloc, remote, Deed::Look, &[]), Ok(Answer::Seen(_)))
+}
+
+/// Does tasks on a connection of its own, where one can be had.
 fn help_out<W: Wait, P: Screen + Keeps, H: Folders, D: Dials, C: Clock, T>(
     rt: &W,
     alloc: Global,
@@ -118,6 +125,9 @@ where
     H::F: Drop + Send,
 {
     if let Ok(mut session) = Session::new(alloc, &out.dialler, &out.clock) {
+        if !is_joined(alloc, &mut session) {
+            return;
+        }
         let mut folder = out.folders.folder(number);
         work(rt, alloc, pool, &out.screen, &mut session, &mut folder);
     }

@@ -79,9 +79,9 @@ pub(crate) struct About {
     pub(crate) leads: bool,
 }
 
-/// Whether a line that begins so leads elsewhere.
+/// Whether a line that begins so leads elsewhere. Of one whose first word can't be read nobody knows.
 fn leads(first: &[u8]) -> bool {
-    matches!(verb_of(first), Some(Verb::Cd | Verb::Lcd))
+    first.is_empty() || matches!(verb_of(first), Some(Verb::Cd | Verb::Lcd))
 }
 
 /// What a line says; none where it says nothing.

@@ -52,9 +52,16 @@ Names dir word (named.Mistaken told) = (m : Mistake) × (path_of dir word ≡ Er
 abbrev pub ends_in : (tail word : List ℕ) → Bool
 ends_in tail word = bytes_eq (drop (length word - length tail) word) tail
 
--- so does one that is `.` or `..`; `/` names the root, which is there
+-- `/` names the root, which is there
+abbrev pub is_slashed : (word : List ℕ) → Bool
+is_slashed word = ends_in (codes "/") word && not (bytes_eq word (codes "/"))
+
+-- so does one that is `.` or `..`
+abbrev pub is_dotted : (word : List ℕ) → Bool
+is_dotted word = ends_in (codes "/.") word || ends_in (codes "/..") word || bytes_eq word (codes ".") || bytes_eq word (codes "..")
+
 abbrev pub says_dir : (word : List ℕ) → Bool
-says_dir word = not (bytes_eq word (codes "/")) && (ends_in (codes "/") word || ends_in (codes "/.") word || ends_in (codes "/..") word || bytes_eq word (codes ".") || bytes_eq word (codes ".."))
+says_dir word = is_slashed word || is_dotted word
 
 -- a directory has it, or, unless that is a must, nothing does
 abbrev pub fits_dir : (must : Bool) → Answer → Bool
@@ -79,10 +86,10 @@ DirOn asks old says must (named.Path path) n new = DirIf asks old says must path
 DirOn asks old says must (named.Mistaken told) n new = (new ≡ old) × (n ≡ named.Mistaken told)
 
 -- the path that a word names, by one look where it says that a directory has it
-pub record NamesAt {R : Type 0} (asks : R → Command → Answer → R → Type 0) (old : R) (dir : List (List ℕ)) (must : Bool) (word : List ℕ) (n : Named) (new : R) : Type 0 where
+pub record NamesAt {R : Type 0} (asks : R → Command → Answer → R → Type 0) (old : R) (dir : List (List ℕ)) (says must : Bool) (word : List ℕ) (n : Named) (new : R) : Type 0 where
   pub at : Named
   pub names : Names dir word at
-  pub goes_on : DirOn asks old (says_dir word) must at n new
+  pub goes_on : DirOn asks old says must at n new
 
 -- ---- cd: to what is told to be a directory
 
@@ -209,7 +216,7 @@ pub record PutsTo {R : Type 0} (asks : R → Command → Answer → R → Type 0
 pub record SyncsTo {R : Type 0} (asks : R → Command → Answer → R → Type 0) (old : R) (dir : List (List ℕ)) (line : Line) (local : List ℕ) (is_folder : Bool) (w : Went) (new : R) : Type 0 where
   pub target : Named
   pub between : R
-  pub names : NamesAt asks old dir (not is_folder) (operand_of line 1) target between
+  pub names : NamesAt asks old dir (says_dir (operand_of line 1)) (not is_folder) (operand_of line 1) target between
   pub goes_on : Stores asks between local target (sync_storing (line.has_option && is_folder)) w new
 
 -- by what LOCAL is here: where it isn't, nothing is asked
@@ -252,11 +259,16 @@ abbrev pub is_mkdir : Verb → Bool
 is_mkdir verb.Mkdir = true
 is_mkdir v = false
 
+-- FILE/. is fetched as FILE: a get that was stopped goes on by PATH/. whatever has the path
+abbrev pub says_of : Verb → (word : List ℕ) → Bool
+says_of verb.Get word = is_slashed word
+says_of v word = says_dir word
+
 -- a command whose first word is a path of the server
 pub record RunsNamed {R F : Type 0} (asks : R → Command → Answer → R → Type 0) (content : R → ℕ → List ℕ) (finds : F → Bool → List ℕ → Kind → F → Type 0) (clears : F → List ℕ → F → Type 0) (line : Line) (folder : List ℕ) (dir : List (List ℕ)) (old : R) (host : F) (w : Went) (new : R) (host' : F) (dir' : List (List ℕ)) : Type 0 where
   pub at : Named
   pub between : R
-  pub names : NamesAt asks old dir (not (is_mkdir line.verb)) (operand_of line 0) at between
+  pub names : NamesAt asks old dir (says_of line.verb (operand_of line 0)) (not (is_mkdir line.verb)) (operand_of line 0) at between
   pub goes_on : DoesNamed asks content finds clears line folder dir at between host w new host' dir'
 
 abbrev pub RunsAs : {R F : Type 0} → (asks : R → Command → Answer → R → Type 0) → (content : R → ℕ → List ℕ) → (finds : F → Bool → List ℕ → Kind → F → Type 0) → (clears : F → List ℕ → F → Type 0) → Verb → Line → (here : Option (List ℕ)) → (folder : List ℕ) → (dir : List (List ℕ)) → R → F → Went → R → F → (folder' : List ℕ) → (dir' : List (List ℕ)) → Type 0

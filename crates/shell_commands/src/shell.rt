@@ -5,9 +5,9 @@ ghost use Rattle.std.specs.Prelude.{◌≡◌, ◌++◌, codes, IfOk, OnOk};
 ghost use Rattle.shell_words.specs.Paths.{above};
 ghost use Rattle.shell_walks.specs.Telling.{fine, path_text};
 ghost use Rattle.shell_commands.specs.Here.{IsFolderOf, is_name_here, name_got};
-ghost use Rattle.shell_commands.specs.Lines.{mistaken_as, operand_of, Names, says_dir, fits_dir, dir_named, LooksDir, DirIf, NamesAt, gone_to, Goes, is_over, stood_in, RemovesIf, MovesTo, GetsInto, Gets, name_into, GetsIf, put_storing, sync_storing};
+ghost use Rattle.shell_commands.specs.Lines.{mistaken_as, operand_of, Names, ends_in, is_slashed, is_dotted, says_dir, fits_dir, dir_named, LooksDir, DirIf, NamesAt, gone_to, Goes, is_over, stood_in, RemovesIf, MovesTo, GetsInto, Gets, name_into, GetsIf, put_storing, sync_storing};
 ghost use Rattle.shell_commands.specs.Lines.{wants_dir, target_if, is_fit, target_as, LooksTarget, TargetsIf, Targets, task_as, StoresTo, Stores};
-ghost use Rattle.shell_commands.specs.Lines.{PutsTo, SyncsTo, PutsFrom, SyncsFrom, RunsPut, RunsSync, DoesPath, DoesNamed, is_mkdir, RunsNamed, Runs, KeepsFolder, StandsFirst};
+ghost use Rattle.shell_commands.specs.Lines.{PutsTo, SyncsTo, PutsFrom, SyncsFrom, RunsPut, RunsSync, DoesPath, DoesNamed, is_mkdir, says_of, RunsNamed, Runs, KeepsFolder, StandsFirst};
 
 use crate::here::{
     NamedLocal, Source, find_source, got, has_word, is_name_here, lcd, name_below, name_got,
@@ -92,16 +92,25 @@ fn ends_in(tail: &[u8], word: &[u8]) -> bool
     is(&word[word.len().saturating_sub(tail.len())..], tail)
 }
 
-/// Whether a word says that a directory has its path. The root, which is there, needs no look.
+/// Whether a slash ends a word, other than the root's, which needs no look.
+fn is_slashed(word: &[u8]) -> bool
+    ensures { result ≡ is_slashed word.now }
+{
+    ends_in(b"/", word) && !is(word, b"/")
+}
+
+/// Whether the last part of a word is `.` or `..`.
+fn is_dotted(word: &[u8]) -> bool
+    ensures { result ≡ is_dotted word.now }
+{
+    ends_in(b"/.", word) || ends_in(b"/..", word) || is(word, b".") || is(word, b"..")
+}
+
+/// Whether a word says that a directory has its path.
 fn says_dir(word: &[u8]) -> bool
     ensures { result ≡ says_dir word.now }
 {
-    !is(word, b"/")
-        && (ends_in(b"/", word)
-            || ends_in(b"/.", word)
-            || ends_in(b"/..", word)
-            || is(word, b".")
-            || is(word, b".."))
+    is_slashed(word) || is_dotted(word)
 }
 
 /// Whether what a look told may have a path whose word says that a directory has it.
@@ -161,13 +170,14 @@ fn name_at<R: Remote>(
     alloc: Global,
     remote: &mut R,
     dir: &[Name],
+    says: bool,
     must: bool,
     word: &[u8],
 ) -> Result<Named, AllocError>
-    ensures { IfOk result (λ n. NamesAt R.asks remote.old dir.now must word.now n remote.new) }
+    ensures { IfOk result (λ n. NamesAt R.asks remote.old dir.now says must word.now n remote.new) }
 {
     match path_named(alloc, dir, word)? {
-        Named::Path(path) => dir_if(alloc, remote, says_dir(word), must, path),
+        Named::Path(path) => dir_if(alloc, remote, says, must, path),
         Named::Mistaken(told) => Ok(Named::Mistaken(told)),
     }
 }
@@ -490,7 +500,8 @@ fn sync_to<R: Remote>(
 ) -> Result<Went, AllocError>
     ensures { IfOk result (λ w. SyncsTo R.asks remote.old dir.now line.now local is_folder w remote.new) }
 {
-    let target = name_at(alloc, remote, dir, !is_folder, operand(line, 1))?;
+    let word = operand(line, 1);
+    let target = name_at(alloc, remote, dir, says_dir(word), !is_folder, word)?;
     stores(
         alloc,
         remote,
@@ -575,6 +586,16 @@ fn gets_if<F: Folder>(
         let name = name_got(path.as_slice());
         let told = of_word(alloc, name, fault_words(LocalFault::BadName))?;
         Ok(Went::Told(told))
+    }
+}
+
+/// Whether the word of a command says that a directory has its path. FILE/. is fetched as FILE.
+fn says_of(verb: Verb, word: &[u8]) -> bool
+    ensures { result ≡ says_of verb word.now }
+{
+    match verb {
+        Verb::Get => is_slashed(word),
+        _ => says_dir(word),
     }
 }
 
@@ -716,8 +737,9 @@ impl Shell {
         ensures folder { self.new.folder ≡ self.old.folder }
         ensures here { self.new.here ≡ self.old.here }
     {
-        let must = !is_mkdir(line.verb);
-        let at = name_at(alloc, remote, self.dir.as_slice(), must, operand(line, 0))?;
+        let word = operand(line, 0);
+        let (says, must) = (says_of(line.verb, word), !is_mkdir(line.verb));
+        let at = name_at(alloc, remote, self.dir.as_slice(), says, must, word)?;
         self.run_at(alloc, remote, host, line, at)
     }
 
