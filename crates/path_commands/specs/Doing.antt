@@ -1,5 +1,5 @@
 -- What a command about paths of the server comes to, over what a client does at any command (`asks`): which commands of the client it makes, in which order, and what is told.
-use Rattle.std.specs.Prelude.{◌≡◌, ℕ, ◌+◌, ◌-◌, ◌==◌, ◌<◌, ◌&&◌, ◌||◌, List, [], ◌∷◌, ◌++◌, get_or, length, take, Bool, true, false, not, codes, if◌then◌else◌}
+use Rattle.std.specs.Prelude.{◌≡◌, ℕ, ◌+◌, ◌-◌, ◌==◌, ◌<◌, ◌&&◌, ◌||◌, List, [], ◌∷◌, ◌++◌, get_or, length, take, Bool, true, false, not, codes}
 use Rattle.command_text.specs.declared.command.Command.{Command}
 use Rattle.shell_words.specs.Quoting.{quoted}
 use Rattle.shell_words.specs.declared.command.Verb.{Verb}
