@@ -139,7 +139,8 @@ fn last_name(path: &str) -> &str {
 }
 
 impl Target {
-    /// Whether it is what this path leads to, by whatever names. Where that can't be told it may be, under that name.
+    /// Whether it is what this path leads to, by whatever names. Where that can't be told it may be, under that name;
+    /// where its folder isn't there it isn't.
     pub(crate) fn is_at<R: HostDisk>(&self, rt: &R, alloc: Global, path: &str) -> bool {
         let own = self.path.as_str();
         let Ok(led) = led_to(rt, alloc, path) else {
@@ -148,6 +149,7 @@ impl Target {
         let other = led.as_str();
         match (place_of(rt, alloc, own), place_of(rt, alloc, other)) {
             (Ok(own), Ok(other)) => own == other,
+            (_, Err(why)) if why.kind() == ErrorKind::NotFound => false,
             _ => last_name(own) == last_name(other),
         }
     }
