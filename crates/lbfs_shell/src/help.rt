@@ -17,7 +17,7 @@ mv PATH PATH               gives a file or a directory another name
 stat PATH                  says what a name stands for
 cat PATH                   writes what is in a file
 help [COMMAND]             says this, or more of one command (COMMAND --help)
-bye                        ends the shell
+bye                        ends the shell (so do quit and exit)
 PATH is on the server, LOCAL here; a name with blanks is quoted: 'two words'.
 ";
 
@@ -97,7 +97,7 @@ const HELP: &str = "help [COMMAND]
 Says which commands there are, or what one does, as COMMAND --help does.
 ";
 
-const BYE: &str = "bye
+const BYE: &str = "bye, quit, exit
 Ends the shell, as the end of the input does.
 ";
 

@@ -26,7 +26,7 @@ verb_of word =
     else if bytes_eq word (codes "cat") then Some verb.Cat
     else if bytes_eq word (codes "sync") then Some verb.Sync
     else if bytes_eq word (codes "help") then Some verb.Help
-    else if bytes_eq word (codes "bye") then Some verb.Bye
+    else if bytes_eq word (codes "bye") || bytes_eq word (codes "quit") || bytes_eq word (codes "exit") then Some verb.Bye
     else None
 
 -- whether a word is the one option that a command has

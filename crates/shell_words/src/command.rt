@@ -40,7 +40,7 @@ pub enum Verb {
     Sync,
     /// `help [COMMAND]`: says what there is.
     Help,
-    /// `bye`: ends the shell.
+    /// `bye`, `quit` or `exit`: ends the shell.
     Bye,
 }
 
@@ -103,7 +103,7 @@ pub fn verb_of(word: &[u8]) -> Option<Verb>
         Some(Verb::Sync)
     } else if is(word, b"help") {
         Some(Verb::Help)
-    } else if is(word, b"bye") {
+    } else if is(word, b"bye") || is(word, b"quit") || is(word, b"exit") {
         Some(Verb::Bye)
     } else {
         None
