@@ -109,7 +109,10 @@ fn work<W: Wait, P: Screen + Keeps, R: Remote, F: Folder>(
 /// Whether a connection can be had for a client, by a look at the root. A server has room for so many, and shuts what
 /// is above: a task would fail there that another thread can do.
 fn is_joined<R: Remote>(alloc: Global, remote: &mut R) -> bool {
-    matches!(ask_on(alloc, remote, Deed::Look, &[]), Ok(Answer::Seen(_)))
+    match ask_on(alloc, remote, Deed::Look, &[]) {
+        Ok(answer) => matches!(&answer, Answer::Seen(_)),
+        Err(AllocError) => false,
+    }
 }
 
 /// Does tasks on a connection of its own, where one can be had.
