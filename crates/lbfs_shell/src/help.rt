@@ -97,8 +97,8 @@ const HELP: &str = "help [COMMAND]
 Says which commands there are, or what one does, as COMMAND --help does.
 ";
 
-const BYE: &str = "bye, quit, exit
-Ends the shell, as the end of the input does.
+const BYE: &str = "bye
+Ends the shell, as the end of the input does; so do quit and exit.
 ";
 
 /// What is told of all commands.
