@@ -210,12 +210,12 @@ fn go<R: Remote>(
 fn is_over(path: &[Name], dir: &[Name]) -> bool
     ensures { result ≡ is_over path.now dir.now }
 {
-    match (path, dir) {
-        ([], _) => true,
-        ([name, names @ ..], [part, parts @ ..]) => {
-            is(name.as_slice(), part.as_slice()) && is_over(names, parts)
-        }
-        _ => false,
+    match path {
+        [] => true,
+        [name, names @ ..] => match dir {
+            [] => false,
+            [part, parts @ ..] => is(name.as_slice(), part.as_slice()) && is_over(names, parts),
+        },
     }
 }
 
