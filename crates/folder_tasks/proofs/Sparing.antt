@@ -10,6 +10,7 @@ use Rattle.shell_walks.specs.declared.tasks.Task.{Task}
 use Rattle.shell_walks.specs.declared.tasks.Task.TheVariants as task
 use Rattle.path_commands.specs.Placing.{is_in_the_way, is_taken, OverIf, Places, PlacesIf, PlacesOver}
 use Rattle.folder_tasks.specs.Visiting.{is_removal, Spares, Spares.unasked, Spares.asked, SparesFor, SparesPut}
+use Rattle.path_commands.specs.declared.placing.Made.{Made}
 use Rattle.path_commands.specs.declared.placing.Place.{Place}
 
 pub apart : true ≡ false → ⊥
@@ -25,15 +26,15 @@ then_asked asks path old mid _ t (asked d a m n r is h) = asked d a m n (then_as
 
 -- ---- a directory is made for a folder
 
-places_if : {R : Type 0} (asks : R → Command → Answer → R → Type 0) (path : List (List ℕ)) (a : Answer) (p : Place) (old mid new : R) (b : Bool) → Spares asks path old mid → PlacesIf asks mid b path a p new → Spares asks path old new
-places_if asks path a p old mid new true t k = asked deed.Look k.looked mid new t refl k.looks
-places_if asks path a p old mid new false t k = subst (λ s. Spares asks path old s) (sym k.0) t
+places_if : {R : Type 0} (asks : R → Command → Answer → R → Type 0) (path : List (List ℕ)) (a : Answer) (m : Made) (old mid new : R) (b : Bool) → Spares asks path old mid → PlacesIf asks mid b path a m new → Spares asks path old new
+places_if asks path a m old mid new true t k = asked deed.Look k.looked mid new t refl k.looks
+places_if asks path a m old mid new false t k = subst (λ s. Spares asks path old s) (sym k.0) t
 
-places : {R : Type 0} (asks : R → Command → Answer → R → Type 0) (path : List (List ℕ)) (p : Place) (old new : R) → Places asks old path p new → Spares asks path old new
-places asks [] p old new k = unasked new k.0
-places asks (name ∷ names) p old new k = places_if asks (name ∷ names) k.made p old k.between new (is_taken k.made) (only_asked asks deed.MakeDir (name ∷ names) k.made old k.between refl k.makes) k.goes_on
+places : {R : Type 0} (asks : R → Command → Answer → R → Type 0) (path : List (List ℕ)) (m : Made) (old new : R) → Places asks old path m new → Spares asks path old new
+places asks [] m old new k = unasked new k.0
+places asks (name ∷ names) m old new k = places_if asks (name ∷ names) k.answer m old k.between new (is_taken k.answer) (only_asked asks deed.MakeDir (name ∷ names) k.answer old k.between refl k.makes) k.goes_on
 
-over_if : {R : Type 0} (asks : R → Command → Answer → R → Type 0) (path : List (List ℕ)) (before p : Place) (old mid new : R) (b deletes : Bool) → deletes ≡ false → Spares asks path old mid → OverIf asks mid (b && deletes) path before p new → Spares asks path old new
+over_if : {R : Type 0} (asks : R → Command → Answer → R → Type 0) (path : List (List ℕ)) (before : Made) (p : Place) (old mid new : R) (b deletes : Bool) → deletes ≡ false → Spares asks path old mid → OverIf asks mid (b && deletes) path before p new → Spares asks path old new
 over_if asks path before p old mid new true true e t k = absurd (apart e)
 over_if asks path before p old mid new false true e t k = absurd (apart e)
 over_if asks path before p old mid new true false e t k = subst (λ s. Spares asks path old s) (sym k.0) t

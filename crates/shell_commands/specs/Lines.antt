@@ -1,5 +1,5 @@
 -- What a line comes to: which path of the server a word of it names, and what is done with that.
-use Rattle.std.specs.Prelude.{◌≡◌, ℕ, ◌-◌, ◌==◌, ◌&&◌, ◌||◌, List, [], ◌∷◌, ◌++◌, length, drop, not, slice_get, Option, Some, None, Bool, true, false, Ok, Err, bytes_eq, codes}
+use Rattle.std.specs.Prelude.{◌≡◌, ℕ, ◌-◌, ◌&&◌, ◌||◌, List, [], ◌∷◌, ◌++◌, length, drop, not, slice_get, Option, Some, None, Bool, true, false, Ok, Err, bytes_eq, codes}
 use Rattle.command_text.specs.declared.command.Command.{Command}
 use Rattle.shell_words.specs.Local.{is_component}
 use Rattle.shell_words.specs.Paths.{above, last_of, path_of}
