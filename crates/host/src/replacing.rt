@@ -147,10 +147,13 @@ impl Target {
             return last_name(own) == last_name(path);
         };
         let other = led.as_str();
-        match (place_of(rt, alloc, own), place_of(rt, alloc, other)) {
-            (Ok(own), Ok(other)) => own == other,
-            (_, Err(why)) if why.kind() == ErrorKind::NotFound => false,
-            _ => last_name(own) == last_name(other),
+        match place_of(rt, alloc, other) {
+            Ok(place) => match place_of(rt, alloc, own) {
+                Ok(mine) => mine == place,
+                Err(_) => last_name(own) == last_name(other),
+            },
+            Err(why) if why.kind() == ErrorKind::NotFound => false,
+            Err(_) => last_name(own) == last_name(other),
         }
     }
 
