@@ -1,5 +1,5 @@
 -- What a line comes to, by the cases of its command.
-use Rattle.std.proofs.Common.{◌≡◌, refl, sym, subst, ap, ℕ, ◌+◌, ◌≤◌, List, length, take, drop, Bool, Option, Some, None, MatchOption, Bor}
+use Rattle.std.proofs.Common.{◌≡◌, refl, sym, subst, ℕ, ◌+◌, ◌≤◌, List, length, take, drop, Bool, Option, Some, None, MatchOption, Bor}
 use Rattle.std.specs.Prelude.{codes}
 use Rattle.std.specs.Str.Pattern.{RFindsChar}
 use Rattle.command_text.specs.declared.command.Command.{Command}

@@ -114,9 +114,14 @@ is_over (name ∷ names) (part ∷ parts) = bytes_eq name part && is_over names 
 abbrev pub stood_in : (path : List (List ℕ)) → Told
 stood_in path = notes (note_line (path_text path) (codes "it stays: this shell stands in it"))
 
-abbrev pub RemovesIf : {R : Type 0} → (asks : R → Command → Answer → R → Type 0) → (content : R → ℕ → List ℕ) → R → (stays has_option : Bool) → List (List ℕ) → Told → R → Type 0
-RemovesIf asks content old true option path told new = (new ≡ old) × (told ≡ stood_in path)
-RemovesIf asks content old false option path told new = OnPath asks content old verb.Rm option path told new
+-- nor is what a word that ends in `.` or `..` names: who types that may mean what is in it
+abbrev pub dotted_out : (path : List (List ℕ)) → Told
+dotted_out path = notes (note_line (path_text path) (codes "it stays: name it without . or .. at the end"))
+
+abbrev pub RemovesIf : {R : Type 0} → (asks : R → Command → Answer → R → Type 0) → (content : R → ℕ → List ℕ) → R → (over dotted has_option : Bool) → List (List ℕ) → Told → R → Type 0
+RemovesIf asks content old true dotted option path told new = (new ≡ old) × (told ≡ stood_in path)
+RemovesIf asks content old false true option path told new = (new ≡ old) × (told ≡ dotted_out path)
+RemovesIf asks content old false false option path told new = OnPath asks content old verb.Rm option path told new
 
 -- ---- mv: its second path is named by a word, too
 
@@ -247,7 +252,7 @@ abbrev pub DoesPath : {R F : Type 0} → (asks : R → Command → Answer → R 
 DoesPath asks content finds clears verb.Cd line folder dir path old host w new host' dir' = (host' ≡ host) × Tells w (λ told. Goes asks old dir path told new dir')
 DoesPath asks content finds clears verb.Get line folder dir path old host w new host' dir' = (new ≡ old) × (dir' ≡ dir) × GetsIf finds clears host (is_name_here (name_got path)) folder line path w host'
 DoesPath asks content finds clears verb.Mv line folder dir path old host w new host' dir' = (host' ≡ host) × (dir' ≡ dir) × Tells w (λ told. MovesTo asks old dir path (operand_of line 1) told new)
-DoesPath asks content finds clears verb.Rm line folder dir path old host w new host' dir' = (host' ≡ host) × (dir' ≡ dir) × Tells w (λ told. RemovesIf asks content old (line.has_option && is_over path dir) line.has_option path told new)
+DoesPath asks content finds clears verb.Rm line folder dir path old host w new host' dir' = (host' ≡ host) × (dir' ≡ dir) × Tells w (λ told. RemovesIf asks content old (line.has_option && is_over path dir) (line.has_option && is_dotted (operand_of line 0)) line.has_option path told new)
 DoesPath asks content finds clears v line folder dir path old host w new host' dir' = (host' ≡ host) × (dir' ≡ dir) × Tells w (λ told. OnPath asks content old v line.has_option path told new)
 
 abbrev pub DoesNamed : {R F : Type 0} → (asks : R → Command → Answer → R → Type 0) → (content : R → ℕ → List ℕ) → (finds : F → Bool → List ℕ → Kind → F → Type 0) → (clears : F → List ℕ → F → Type 0) → Line → (folder : List ℕ) → (dir : List (List ℕ)) → Named → R → F → Went → R → F → (dir' : List (List ℕ)) → Type 0

@@ -5,7 +5,7 @@ ghost use Rattle.std.specs.Prelude.{◌≡◌, ◌++◌, codes, IfOk, OnOk};
 ghost use Rattle.shell_words.specs.Paths.{above};
 ghost use Rattle.shell_walks.specs.Telling.{fine, path_text};
 ghost use Rattle.shell_commands.specs.Here.{IsFolderOf, is_name_here, name_got};
-ghost use Rattle.shell_commands.specs.Lines.{mistaken_as, operand_of, Names, ends_in, is_slashed, is_dotted, says_dir, fits_dir, dir_named, LooksDir, DirIf, NamesAt, gone_to, Goes, is_over, stood_in, RemovesIf, MovesTo, GetsInto, Gets, name_into, GetsIf, put_storing, sync_storing};
+ghost use Rattle.shell_commands.specs.Lines.{mistaken_as, operand_of, Names, ends_in, is_slashed, is_dotted, says_dir, fits_dir, dir_named, LooksDir, DirIf, NamesAt, gone_to, Goes, is_over, stood_in, dotted_out, RemovesIf, MovesTo, GetsInto, Gets, name_into, GetsIf, put_storing, sync_storing};
 ghost use Rattle.shell_commands.specs.Lines.{wants_dir, target_if, is_fit, target_as, LooksTarget, TargetsIf, Targets, task_as, StoresTo, Stores};
 ghost use Rattle.shell_commands.specs.Lines.{PutsTo, SyncsTo, PutsFrom, SyncsFrom, RunsPut, RunsSync, DoesPath, DoesNamed, is_mkdir, says_of, RunsNamed, Runs, KeepsFolder, StandsFirst};
 
@@ -227,18 +227,29 @@ fn stood_in(alloc: Global, path: &[Name]) -> Result<Told, AllocError>
     Ok(notes(alloc, note))
 }
 
-/// `rm`. What the shell stands in isn't removed with all that is in it.
+/// What is told of one that a word names which ends in `.` or `..`.
+fn dotted_out(alloc: Global, path: &[Name]) -> Result<Told, AllocError>
+    ensures { IfOk result (λ told. told ≡ dotted_out path.now) }
+{
+    let note = path_line(alloc, path, b"it stays: name it without . or .. at the end")?;
+    Ok(notes(alloc, note))
+}
+
+/// `rm`. What the shell stands in isn't removed with all that is in it, nor what a word names that ends in a dot.
 fn remove_if<R: Remote>(
     alloc: Global,
     remote: &mut R,
-    stays: bool,
+    over: bool,
+    dotted: bool,
     has_option: bool,
     path: &[Name],
 ) -> Result<Told, AllocError>
-    ensures { IfOk result (λ told. RemovesIf R.asks R.content remote.old stays has_option path.now told remote.new) }
+    ensures { IfOk result (λ told. RemovesIf R.asks R.content remote.old over dotted has_option path.now told remote.new) }
 {
-    if stays {
+    if over {
         stood_in(alloc, path)
+    } else if dotted {
+        dotted_out(alloc, path)
     } else {
         on_path(alloc, remote, Verb::Rm, has_option, path)
     }
@@ -695,8 +706,10 @@ impl Shell {
                 Ok(Went::Told(told))
             }
             Verb::Rm => {
-                let stays = line.has_option && is_over(path.as_slice(), self.dir.as_slice());
-                let told = remove_if(alloc, remote, stays, line.has_option, path.as_slice())?;
+                let deep = line.has_option;
+                let over = deep && is_over(path.as_slice(), self.dir.as_slice());
+                let dotted = deep && is_dotted(operand(line, 0));
+                let told = remove_if(alloc, remote, over, dotted, deep, path.as_slice())?;
                 Ok(Went::Told(told))
             }
             verb => {
