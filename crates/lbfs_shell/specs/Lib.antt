@@ -1,2 +1,4 @@
 pub mod Caching
 pub mod Ends
+pub mod Jobs
+pub mod Rows

@@ -2,7 +2,8 @@
 //! says so. No clause speaks of what is behind the lock, since another thread's turn may stand before and
 //! behind each; of what one turn makes of it `Jobs::count_in` does.
 
-ghost use Rattle.std.specs.Prelude.{◌≡◌, ◌≤◌, ◌-◌, ◌++◌, ◌||◌, [], IfOk, None, Some, true, false, length, reverse, if◌then◌else◌};
+ghost use Rattle.std.specs.Prelude.{◌≡◌, ◌≤◌, ◌+◌, ◌-◌, ◌∷◌, ◌++◌, ◌||◌, [], IfOk, OnOk, None, Some, true, false, length, reverse, if◌then◌else◌};
+ghost use Rattle.lbfs_shell.specs.Jobs.{others, removals, removes, still_later, to_do};
 ghost use Rattle.shell_telling.specs.Tally.{capped_sum, with_visit};
 ghost use Rattle.shell_telling.specs.Telling.{left_out_text};
 
@@ -23,6 +24,8 @@ use std::sync::{Condvar, Mutex, Wait};
 struct Jobs {
     /// Those that are to do, the next one last.
     tasks: Vec<Task>,
+    /// Removals, which wait until nothing else is to do or being done, the next one last.
+    later: Vec<Task>,
     /// How many are being done.
     busy: u64,
     tally: Tally,
@@ -53,10 +56,61 @@ pub(crate) struct Pool {
 /// What erases the line that stands there.
 const ERASE: &[u8] = b"\r\x1b[K";
 
+/// Whether a task only removes.
+fn removes(task: &Task) -> bool
+    ensures { result ≡ removes task.now }
+{
+    match task {
+        Task::Put { .. } | Task::Get { .. } => false,
+        Task::Remove(_) => true,
+    }
+}
+
+/// A task that came goes behind those that are to do, or that wait.
+fn add_one(tasks: &mut Vec<Task>, later: &mut Vec<Task>, task: Task) -> Result<(), AllocError>
+    ensures came { OnOk result (tasks.new.items ≡ tasks.old.items ++ others (task ∷ [])) }
+    ensures waits { OnOk result (later.new.items ≡ later.old.items ++ removals (task ∷ [])) }
+    ensures count { OnOk result (length tasks.new.items + length later.new.items ≡ length tasks.old.items + length later.old.items + 1) }
+{
+    if removes(&task) {
+        later.push(task)?;
+    } else {
+        tasks.push(task)?;
+    }
+    Ok(())
+}
+
+/// The tasks that came go behind those that are to do, and the removals behind those that wait, the first of them
+/// as the next one.
+fn add_all(
+    tasks: &mut Vec<Task>,
+    later: &mut Vec<Task>,
+    more: Items<Task>,
+) -> Result<(), AllocError>
+    ensures came { OnOk result (tasks.new.items ≡ tasks.old.items ++ reverse (others more)) }
+    ensures waits { OnOk result (later.new.items ≡ later.old.items ++ reverse (removals more)) }
+    ensures count { OnOk result (length tasks.new.items + length later.new.items ≡ length tasks.old.items + length later.old.items + length more) }
+{
+    let mut more = more.into_vec();
+    while let Some(task) = more.pop() {
+        add_one(tasks, later, task)?;
+    }
+    Ok(())
+}
+
 impl Jobs {
+    /// How many tasks are known that aren't begun.
+    fn not_begun(&self) -> u64
+        ensures { result ≡ capped_sum (length self.now.tasks.items) (length self.now.later.items) }
+    {
+        (self.tasks.len() as u64).saturating_add(self.later.len() as u64)
+    }
+
     /// How many tasks are known that aren't done.
-    fn left(&self) -> u64 {
-        (self.tasks.len() as u64).saturating_add(self.busy)
+    fn left(&self) -> u64
+        ensures { result ≡ capped_sum (length self.now.tasks.items + length self.now.later.items) self.now.busy }
+    {
+        self.not_begun().saturating_add(self.busy)
     }
 
     /// The line that says how far it is goes.
@@ -75,9 +129,11 @@ impl Jobs {
         }
     }
 
-    /// The tasks that came go to those that are to do, the first of them as the next one.
+    /// The tasks that came go to those that are to do, the first of them as the next one; removals wait.
     fn add(&mut self, more: Items<Task>)
-        ensures came { self.new.is_starved ≡ false → self.new.tasks.items ≡ self.old.tasks.items ++ reverse more }
+        ensures came { self.new.is_starved ≡ false → self.new.tasks.items ≡ self.old.tasks.items ++ reverse (others more) }
+        ensures waits { self.new.is_starved ≡ false → self.new.later.items ≡ self.old.later.items ++ reverse (removals more) }
+        ensures count { self.new.is_starved ≡ false → length self.new.tasks.items + length self.new.later.items ≡ length self.old.tasks.items + length self.old.later.items + length more }
         ensures starved { self.old.is_starved ≡ true → self.new.is_starved ≡ true }
         ensures off { self.new.is_off ≡ self.old.is_off }
         ensures left { self.new.left_out ≡ self.old.left_out }
@@ -85,26 +141,43 @@ impl Jobs {
         ensures busy { self.new.busy ≡ self.old.busy }
         ensures again { self.new.again ≡ self.old.again }
     {
-        let mut more = more.into_vec();
-        more.reverse();
-        if self.tasks.append(&mut more).is_err() {
+        if add_all(&mut self.tasks, &mut self.later, more).is_err() {
             self.is_starved = true;
         }
     }
 
-    /// The tasks that are to do aren't begun.
+    /// Where nothing else is to do, nor being done, the removals are.
+    fn reach_later(&mut self)
+        ensures tasks { self.new.tasks.items ≡ to_do self.old.busy self.old.tasks.items self.old.later.items }
+        ensures later { self.new.later.items ≡ still_later self.old.busy self.old.tasks.items self.old.later.items }
+        ensures count { length self.new.tasks.items + length self.new.later.items ≡ length self.old.tasks.items + length self.old.later.items }
+        ensures starved { self.new.is_starved ≡ self.old.is_starved }
+        ensures off { self.new.is_off ≡ self.old.is_off }
+        ensures left { self.new.left_out ≡ self.old.left_out }
+        ensures tally { self.new.tally ≡ self.old.tally }
+        ensures busy { self.new.busy ≡ self.old.busy }
+        ensures again { self.new.again ≡ self.old.again }
+    {
+        if self.busy == 0 && self.tasks.is_empty() {
+            mem::swap(&mut self.tasks, &mut self.later);
+        }
+    }
+
+    /// The tasks that are to do aren't begun, nor those that wait.
     fn leave_out(&mut self)
         ensures none { self.new.tasks.items ≡ [] }
-        ensures left { self.new.left_out ≡ capped_sum self.old.left_out (length self.old.tasks.items) }
+        ensures later { self.new.later.items ≡ [] }
+        ensures left { self.new.left_out ≡ capped_sum self.old.left_out (length self.old.tasks.items + length self.old.later.items) }
         ensures off { self.new.is_off ≡ self.old.is_off }
         ensures starved { self.new.is_starved ≡ self.old.is_starved }
         ensures tally { self.new.tally ≡ self.old.tally }
         ensures busy { self.new.busy ≡ self.old.busy }
         ensures again { self.new.again ≡ self.old.again }
     {
-        let count = self.tasks.len() as u64;
+        let count = self.not_begun();
         self.left_out = self.left_out.saturating_add(count);
         self.tasks.clear();
+        self.later.clear();
     }
 
     /// What is said at the end: how many tasks weren't begun, and how one goes on where no server answers any more.
@@ -136,16 +209,21 @@ impl Jobs {
         }
     }
 
-    /// What a task came to counts, and what comes of it is to do. Once there is no server, or memory ran out, nothing is.
+    /// What a task came to counts, and what comes of it is to do, removals last of all. Once there is no server, or
+    /// memory ran out, nothing is.
     fn count_in(&mut self, alloc: Global, visited: Visited)
         ensures tally { self.new.tally ≡ with_visit self.old.tally visited }
         ensures off { self.new.is_off ≡ (self.old.is_off || visited.is_off) }
-        ensures none { self.new.is_off ≡ true → self.new.tasks.items ≡ [] }
-        ensures spent { self.new.is_starved ≡ true → self.new.tasks.items ≡ [] }
-        ensures all { self.new.is_starved ≡ false → capped_sum self.new.left_out (length self.new.tasks.items)
-            ≡ capped_sum (capped_sum (capped_sum self.old.left_out visited.left) (length self.old.tasks.items)) (length visited.more) }
+        ensures none { self.new.is_off ≡ true → (self.new.tasks.items ≡ []) × (self.new.later.items ≡ []) }
+        ensures spent { self.new.is_starved ≡ true → (self.new.tasks.items ≡ []) × (self.new.later.items ≡ []) }
+        ensures all { self.new.is_starved ≡ false → capped_sum self.new.left_out (length self.new.tasks.items + length self.new.later.items)
+            ≡ capped_sum (capped_sum (capped_sum self.old.left_out visited.left) (length self.old.tasks.items + length self.old.later.items)) (length visited.more) }
         ensures least { capped_sum self.old.left_out visited.left ≤ self.new.left_out }
-        ensures comes { self.new.is_off ≡ false → self.new.is_starved ≡ false → self.new.tasks.items ≡ self.old.tasks.items ++ reverse visited.more }
+        ensures comes { self.new.is_off ≡ false → self.new.is_starved ≡ false → self.new.tasks.items
+            ≡ to_do self.new.busy (self.old.tasks.items ++ reverse (others visited.more)) (self.old.later.items ++ reverse (removals visited.more)) }
+        ensures waits { self.new.is_off ≡ false → self.new.is_starved ≡ false → self.new.later.items
+            ≡ still_later self.new.busy (self.old.tasks.items ++ reverse (others visited.more)) (self.old.later.items ++ reverse (removals visited.more)) }
+        ensures ends { self.new.busy ≡ 0 → self.new.tasks.items ≡ [] → self.new.later.items ≡ [] }
         ensures starved { self.old.is_starved ≡ true → self.new.is_starved ≡ true }
         ensures busy { self.new.busy ≡ self.old.busy - 1 }
         ensures again { self.new.again ≡ self.old.again }
@@ -160,14 +238,16 @@ impl Jobs {
         self.add(more);
         if self.is_off || self.is_starved {
             self.leave_out();
+        } else {
+            self.reach_later();
         }
     }
 
     /// Memory ran out in a task: nothing is to do any more.
     fn starve(&mut self)
         ensures starved { self.new.is_starved ≡ true }
-        ensures none { self.new.tasks.items ≡ [] }
-        ensures left { self.new.left_out ≡ capped_sum self.old.left_out (length self.old.tasks.items) }
+        ensures none { (self.new.tasks.items ≡ []) × (self.new.later.items ≡ []) }
+        ensures left { self.new.left_out ≡ capped_sum self.old.left_out (length self.old.tasks.items + length self.old.later.items) }
         ensures busy { self.new.busy ≡ self.old.busy - 1 }
         ensures off { self.new.is_off ≡ self.old.is_off }
         ensures tally { self.new.tally ≡ self.old.tally }
@@ -202,10 +282,11 @@ impl Jobs {
 
 impl Pool {
     /// These tasks are to do, of which less is said where it is quiet.
-    fn of(tasks: Vec<Task>, again: Bytes, is_quiet: bool, counts: bool) -> Pool {
+    fn of(alloc: Global, tasks: Vec<Task>, again: Bytes, is_quiet: bool, counts: bool) -> Pool {
         Pool {
             jobs: Mutex::new(Jobs {
                 tasks,
+                later: Vec::new(alloc),
                 busy: 0,
                 tally: Tally::new(),
                 again,
@@ -231,12 +312,12 @@ impl Pool {
         let again = again_text(alloc, here, &task)?;
         let mut tasks = Vec::new(alloc);
         tasks.push(task)?;
-        Ok(Pool::of(tasks, again, is_quiet, true))
+        Ok(Pool::of(alloc, tasks, again, is_quiet, true))
     }
 
     /// A command is under way that isn't done in tasks: only that it waits is shown.
     pub(crate) fn without_tasks(alloc: Global) -> Pool {
-        Pool::of(Vec::new(alloc), Items::new(alloc), true, false)
+        Pool::of(alloc, Vec::new(alloc), Items::new(alloc), true, false)
     }
 
     /// It is begun: how far it is, is to be said where the program is ended.
