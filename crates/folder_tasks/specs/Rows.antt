@@ -12,7 +12,7 @@ abbrev cleaning : Storing
 cleaning = record { deep = true; changed_only = true; deletes = true; fresh = false; inner = true; id = None }
 
 -- no server answers to a listing: that is said, also where nothing would have gone
-pub no_listing : in_listed (codes "h") (codes "d" ∷ []) (record cleaning { deletes = false }) [] (answer.Failed why.NoLink) [] ≡ record { more = []; note = codes "/d: no server answers (is lbfs share, or ssh -L, running yet?)\n"; news = []; files = 0; bytes = 0; is_off = true; left = 0 }
+pub no_listing : in_listed (codes "h") (codes "d" ∷ []) (record cleaning { deletes = false }) [] (answer.Failed why.NoLink) [] ≡ record { more = []; note = codes "/d: no server answers (is lbfs share, or ssh -L, running yet, or has it 64 connections?)\n"; news = []; files = 0; bytes = 0; is_off = true; left = 0 }
 no_listing = refl
 
 -- a name that no folder here gives or gets stays at the server, which is said where something may go

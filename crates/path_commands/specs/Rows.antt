@@ -34,14 +34,14 @@ the_connection_was_lost = refl
 pub the_server_has_no_memory : is_known (answer.Failed why.PeerMemory) ≡ false
 the_server_has_no_memory = refl
 
-pub no_directory_is_taken_to_be_there : way_told (is_known (answer.Failed why.NoLink)) (codes "d" ∷ []) (answer.Failed why.NoLink) ≡ notes (codes "/d: no server answers (is lbfs share, or ssh -L, running yet?)\n")
+pub no_directory_is_taken_to_be_there : way_told (is_known (answer.Failed why.NoLink)) (codes "d" ∷ []) (answer.Failed why.NoLink) ≡ notes (codes "/d: no server answers (is lbfs share, or ssh -L, running yet, or has it 64 connections?)\n")
 no_directory_is_taken_to_be_there = refl
 
 pub a_file_is_no_directory : directory_told (codes "d" ∷ []) (answer.Seen a_file) ≡ notes (codes "/d: not a directory\n")
 a_file_is_no_directory = refl
 
 -- what was told of a name stays, and two weren't looked at behind one that no server answers
-pub two_are_left : with_left 2 (with_long (codes "d" ∷ []) (codes "b") (fine (codes "a\n")) (answer.Failed why.NoLink)) ≡ record { text = codes "a\n"; note = codes "/d/b: no server answers (is lbfs share, or ssh -L, running yet?)\n" ++ left_text 2 }
+pub two_are_left : with_left 2 (with_long (codes "d" ∷ []) (codes "b") (fine (codes "a\n")) (answer.Failed why.NoLink)) ≡ record { text = codes "a\n"; note = codes "/d/b: no server answers (is lbfs share, or ssh -L, running yet, or has it 64 connections?)\n" ++ left_text 2 }
 two_are_left = refl
 
 pub none_is_left : with_left 0 (fine (codes "a\n")) ≡ fine (codes "a\n")

@@ -109,9 +109,9 @@ pub fn put_why(alloc: Global, out: &mut Bytes, why: Why) -> Result<(), AllocErro
             out.extend_from_slice(b"the connection was lost (is lbfs share still running?)")
         }
         Why::Changed => out.extend_from_slice(b"the file changed each time that it was fetched"),
-        Why::NoLink => {
-            out.extend_from_slice(b"no server answers (is lbfs share, or ssh -L, running yet?)")
-        }
+        Why::NoLink => out.extend_from_slice(
+            b"no server answers (is lbfs share, or ssh -L, running yet, or has it 64 connections?)",
+        ),
         Why::Refused(status) => put_status(alloc, out, status),
         Why::PeerMemory => out.extend_from_slice(b"the server has no memory left"),
         Why::BadPeer(fault) => put_bad_peer(alloc, out, fault),
