@@ -130,6 +130,11 @@ fn place_of<R: HostDisk>(rt: &R, alloc: Global, path: &str) -> io::Result<String
     Ok(place)
 }
 
+/// Whether something may be there all the same, since it couldn't be looked at.
+fn is_hidden(why: &io::Error) -> bool {
+    why.kind() != ErrorKind::NotFound
+}
+
 /// The last name of a path.
 fn last_name(path: &str) -> &str {
     match path.rsplit_once('/') {
@@ -143,17 +148,17 @@ impl Target {
     /// where its folder isn't there it isn't.
     pub(crate) fn is_at<R: HostDisk>(&self, rt: &R, alloc: Global, path: &str) -> bool {
         let own = self.path.as_str();
+        // What a link leads to that leads to nothing yet may be anything.
         let Ok(led) = led_to(rt, alloc, path) else {
-            return last_name(own) == last_name(path);
+            return true;
         };
         let other = led.as_str();
         match place_of(rt, alloc, other) {
             Ok(place) => match place_of(rt, alloc, own) {
                 Ok(mine) => mine == place,
-                Err(_) => last_name(own) == last_name(other),
+                Err(why) => is_hidden(&why) && last_name(own) == last_name(other),
             },
-            Err(why) if why.kind() == ErrorKind::NotFound => false,
-            Err(_) => last_name(own) == last_name(other),
+            Err(why) => is_hidden(&why) && last_name(own) == last_name(other),
         }
     }
 

@@ -27,9 +27,19 @@ pub(crate) fn command_of(alloc: Global, words: &[Name]) -> Result<Option<Line>, 
     }
 }
 
-/// The words that a line begins with, where it isn't read: as far as its first blank.
+/// What a text has from its first byte on that is no blank.
+fn without_blanks(text: &[u8]) -> &[u8] {
+    let mut rest = text;
+    while let [b' ' | b'\t', more @ ..] = rest {
+        rest = more;
+    }
+    rest
+}
+
+/// The words that a line begins with, where it isn't read: its first one, if that can be.
 fn front_words(alloc: Global, text: &[u8]) -> Result<Items<Name>, ReadError> {
-    let (front, _rest) = first_part(b' ', text);
+    let (front, _rest) = first_part(b' ', without_blanks(text));
+    let (front, _rest) = first_part(b'\t', front);
     match words_of(alloc, front) {
         Ok(words) => Ok(words),
         Err(ReadError::Mistaken(_)) => Ok(Items::new(alloc)),

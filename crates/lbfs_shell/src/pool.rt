@@ -2,7 +2,7 @@
 //! says so. No clause speaks of what is behind the lock, since another thread's turn may stand before and
 //! behind each; of what one turn makes of it `Jobs::count_in` does.
 
-ghost use Rattle.std.specs.Prelude.{◌≡◌, ◌≤◌, ◌+◌, ◌-◌, ◌∷◌, ◌++◌, ◌||◌, [], IfOk, OnOk, None, Some, true, false, length, reverse, if◌then◌else◌};
+ghost use Rattle.std.specs.Prelude.{◌≡◌, ◌≤◌, ◌+◌, ◌-◌, ◌∷◌, ◌++◌, ◌||◌, [], IfOk, IfSome, OnOk, None, Some, true, false, length, reverse, if◌then◌else◌};
 ghost use Rattle.lbfs_shell.specs.Jobs.{others, removals, removes, still_later, to_do};
 ghost use Rattle.shell_telling.specs.Tally.{capped_sum, with_visit};
 ghost use Rattle.shell_telling.specs.Telling.{left_out_text};
@@ -209,6 +209,23 @@ impl Jobs {
         }
     }
 
+    /// The next task, where there is one: it is being done then, and no removal is begun before it is done.
+    fn next(&mut self) -> Option<Task>
+        ensures taken { IfSome result (λ task. self.old.tasks.items ≡ self.new.tasks.items ++ task ∷ []) }
+        ensures busy { IfSome result (λ task. self.new.busy ≡ capped_sum self.old.busy 1) }
+        ensures none { result ≡ None → (self.old.tasks.items ≡ []) × (self.new.busy ≡ self.old.busy) }
+        ensures later { self.new.later.items ≡ self.old.later.items }
+        ensures starved { self.new.is_starved ≡ self.old.is_starved }
+        ensures off { self.new.is_off ≡ self.old.is_off }
+        ensures left { self.new.left_out ≡ self.old.left_out }
+        ensures tally { self.new.tally ≡ self.old.tally }
+        ensures again { self.new.again ≡ self.old.again }
+    {
+        let task = self.tasks.pop()?;
+        self.busy = self.busy.saturating_add(1);
+        Some(task)
+    }
+
     /// What a task came to counts, and what comes of it is to do, removals last of all. Once there is no server, or
     /// memory ran out, nothing is.
     fn count_in(&mut self, alloc: Global, visited: Visited)
@@ -329,8 +346,7 @@ impl Pool {
     pub(crate) fn take<W: Wait>(&self, rt: &W) -> Option<Task> {
         let mut jobs = self.jobs.lock(rt);
         for _turn in rt.forever() {
-            if let Some(task) = jobs.tasks.pop() {
-                jobs.busy = jobs.busy.saturating_add(1);
+            if let Some(task) = jobs.next() {
                 return Some(task);
             }
             if jobs.busy == 0 {
@@ -343,10 +359,7 @@ impl Pool {
 
     /// The next task, where there is one now.
     pub(crate) fn take_now<W: Wait>(&self, rt: &W) -> Option<Task> {
-        let mut jobs = self.jobs.lock(rt);
-        let task = jobs.tasks.pop()?;
-        jobs.busy = jobs.busy.saturating_add(1);
-        Some(task)
+        self.jobs.lock(rt).next()
     }
 
     /// The next task, where it is the only one.
@@ -355,9 +368,7 @@ impl Pool {
         if jobs.tasks.len() > 1 {
             return None;
         }
-        let task = jobs.tasks.pop()?;
-        jobs.busy = jobs.busy.saturating_add(1);
-        Some(task)
+        jobs.next()
     }
 
     /// A task was done.
