@@ -145,7 +145,7 @@ fn last_name(path: &str) -> &str {
 
 impl Target {
     /// Whether it is what this path leads to, by whatever names. Where that can't be told it may be, under that name;
-    /// where its folder isn't there it isn't.
+    /// where the folder of either isn't there it isn't.
     pub(crate) fn is_at<R: HostDisk>(&self, rt: &R, alloc: Global, path: &str) -> bool {
         let own = self.path.as_str();
         // What a link leads to that leads to nothing yet may be anything.

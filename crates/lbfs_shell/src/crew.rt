@@ -106,9 +106,9 @@ fn work<W: Wait, P: Screen + Keeps, R: Remote, F: Folder>(
     }
 }
 
-/// Whether a connection can be had for a client, by a look at the root. A server has room for so many, and shuts what
+/// Whether a client gets a connection, by a look at the root. A server has room for so many, and shuts what
 /// is above: a task would fail there that another thread can do.
-fn is_joined<R: Remote>(alloc: Global, remote: &mut R) -> bool {
+fn joins<R: Remote>(alloc: Global, remote: &mut R) -> bool {
     match ask_on(alloc, remote, Deed::Look, &[]) {
         Ok(answer) => matches!(&answer, Answer::Seen(_)),
         Err(AllocError) => false,
@@ -128,7 +128,7 @@ where
     H::F: Drop + Send,
 {
     if let Ok(mut session) = Session::new(alloc, &out.dialler, &out.clock) {
-        if !is_joined(alloc, &mut session) {
+        if !joins(alloc, &mut session) {
             return;
         }
         let mut folder = out.folders.folder(number);

@@ -71,7 +71,7 @@ Makes a directory; with -p those above it too, and one that is there is fine.
 
 const RM: &str = "rm [-r] PATH
 Removes a file; with -r a directory too, with all that is in it, unless the
-shell stands there.
+shell stands there, or the last name of PATH is . or ..
 ";
 
 const RMDIR: &str = "rmdir PATH
@@ -81,7 +81,7 @@ Removes an empty directory.
 const MV: &str = "mv PATH PATH
 Gives a file or a directory another name: the second PATH, or its own in it,
 where that is a directory. There a file replaces a file, and a directory an
-empty one. No file gets a PATH that ends with a slash.
+empty one. No file gets a PATH that ends with /, /. or /..
 ";
 
 const STAT: &str = "stat PATH

@@ -90,7 +90,7 @@ pub(crate) struct About {
 }
 
 /// Whether a line that begins so leads elsewhere. Of one whose first word can't be read nobody knows.
-fn leads(first: &[u8]) -> bool {
+fn leads_elsewhere(first: &[u8]) -> bool {
     first.is_empty() || matches!(verb_of(first), Some(Verb::Cd | Verb::Lcd))
 }
 
@@ -105,7 +105,7 @@ pub(crate) fn line_of(
         Err(error) => {
             let words = front_words(alloc, text)?;
             about.word = Name::copy_of(alloc, first_word(words.as_slice()))?;
-            about.leads = leads(about.word.as_slice());
+            about.leads = leads_elsewhere(about.word.as_slice());
             return Err(error);
         }
     };
@@ -115,7 +115,7 @@ pub(crate) fn line_of(
         _ => first_word(words.as_slice()),
     };
     about.word = Name::copy_of(alloc, word)?;
-    about.leads = leads(first_word(words.as_slice()));
+    about.leads = leads_elsewhere(first_word(words.as_slice()));
     read
 }
 
