@@ -2,7 +2,7 @@
 use Rattle.shell_words.specs.Commands.{some_line, first_verb, line_of, asks_help, help_of, command_of}
 use Rattle.shell_words.specs.declared.command.Line.{Line}
 use Rattle.shell_words.specs.declared.mistake.Mistake.{Mistake}
-use Rattle.std.proofs.Common.{Bool, true, false, cond, length, List, [], ◌∷◌, Option, Some, None, Result, Ok, Err, ap, ◌∙◌, ◌≡◌, ℕ, ◌+◌, ◌-◌, ◌^◌, ◌≤◌, min, arith, refl, sym, subst}
+use Rattle.std.proofs.Common.{Bool, true, false, cond, length, List, [], ◌∷◌, Option, Some, None, Result, Ok, Err, ap, ◌∙◌, ◌≡◌, ℕ, ◌≤◌, arith, refl, sym, subst}
 use Rattle.std.specs.Prelude.{remove, ◌==◌}
 use Rattle.std.proofs.lemmas.Bool.Decides.{nat_tests}
 use Rattle.lb_base.specs.Causes.{Rose}
