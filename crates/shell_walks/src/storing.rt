@@ -2,9 +2,10 @@
 
 ghost use Rattle.std.specs.Prelude.{◌≡◌, ◌∷◌, [], false, IfOk, OnErr, bytes_eq};
 ghost use Rattle.command_text.specs.declared.content.Part.TheVariants as part;
-ghost use Rattle.shell_walks.specs.Storing.{is_done, is_closed, made_file, opened_file, failed_as, failure_of, closed_as, left_as, renewed_as, made_as};
+ghost use Rattle.shell_walks.specs.Storing.{is_done, is_closed, made_file, opened_file, failed_as, failure_of, closed_as, left_as, renewed_as};
 ghost use Rattle.shell_walks.specs.Storing.{Replaces, Abandons, AbandonsIf, Stores, StoresIf};
 ghost use Rattle.shell_walks.specs.Storing.{RenewsId, RenewsIf};
+ghost use Rattle.shell_walks.specs.Storing.{is_as_made, is_unstored, taken_as, TakesOut, TakesIf, TakesBack, TakesFor, TakesAfter};
 ghost use Rattle.shell_walks.specs.Storing.{RenewsSeen, Renews, StoresAt, StoresMade, is_missing, may_store, MakesElse, Makes, StoresChanged, PutsOpen, MakesUnless, Opens, Puts};
 
 use crate::asking::{Deed, ask_on, open};
@@ -96,16 +97,6 @@ fn failure_of(answer: &Answer) -> Option<Why>
     match answer {
         Answer::Failed(why) => Some(*why),
         _ => None,
-    }
-}
-
-/// What is told of the storing of a file that was made: where that failed, the file may stay.
-fn made_as(answer: Answer) -> Answer
-    ensures { result ≡ made_as (failure_of answer) answer }
-{
-    match failure_of(&answer) {
-        Some(why) => Answer::Left(why),
-        None => answer,
     }
 }
 
@@ -240,18 +231,127 @@ fn store_at<R: Remote>(
     }
 }
 
-/// These bytes become the content of a file that was made, which is opened by its id.
+/// The version of a file that was made: each storing makes it larger.
+const MADE: u64 = 1;
+
+/// Whether it is the file that was made, and nobody stored in it.
+fn is_as_made(file: u64, seen: Seen) -> bool
+    ensures { result ≡ is_as_made file seen }
+{
+    !seen.is_dir && seen.id == file && seen.version == MADE && seen.len == 0
+}
+
+/// Whether a look told that the file that was made is at its path, and that nobody stored in it.
+fn is_unstored(file: u64, looked: &Answer) -> bool
+    ensures { result ≡ is_unstored file looked.now }
+{
+    match looked {
+        Answer::Seen(seen) => is_as_made(file, *seen),
+        _ => false,
+    }
+}
+
+/// What is told of a file that was made and wasn't stored, by what its removal told.
+fn taken_as(why: Why, gone: &Answer) -> Answer
+    ensures { result ≡ taken_as why gone.now }
+{
+    match gone {
+        Answer::Done => Answer::Failed(why),
+        _ => Answer::Left(why),
+    }
+}
+
+/// A file that was made is removed again.
+fn take_out<R: Remote>(
+    alloc: Global,
+    remote: &mut R,
+    path: &[Name],
+    why: Why,
+) -> Result<Answer, AllocError>
+    ensures { IfOk result (λ answer. TakesOut R.asks remote.old path.now why answer remote.new) }
+{
+    let gone = ask_on(alloc, remote, Deed::Remove, path)?;
+    Ok(taken_as(why, &gone))
+}
+
+/// It is removed where it is as it was made, and else it may stay.
+fn take_if<R: Remote>(
+    alloc: Global,
+    remote: &mut R,
+    is_unstored: bool,
+    path: &[Name],
+    why: Why,
+) -> Result<Answer, AllocError>
+    ensures { IfOk result (λ answer. TakesIf R.asks remote.old is_unstored path.now why answer remote.new) }
+{
+    if is_unstored {
+        take_out(alloc, remote, path, why)
+    } else {
+        Ok(Answer::Left(why))
+    }
+}
+
+/// The path of a file that was made is looked at, and the file removed where it is still that one.
+fn take_back<R: Remote>(
+    alloc: Global,
+    remote: &mut R,
+    file: u64,
+    path: &[Name],
+    why: Why,
+) -> Result<Answer, AllocError>
+    ensures { IfOk result (λ answer. TakesBack R.asks remote.old file path.now why answer remote.new) }
+{
+    let looked = ask_on(alloc, remote, Deed::Look, path)?;
+    take_if(alloc, remote, is_unstored(file, &looked), path, why)
+}
+
+/// A file that was made is taken back where the server refused its bytes. Where the connection was lost they may still
+/// be stored.
+fn take_for<R: Remote>(
+    alloc: Global,
+    remote: &mut R,
+    why: Why,
+    file: u64,
+    path: &[Name],
+) -> Result<Answer, AllocError>
+    ensures { IfOk result (λ answer. TakesFor R.asks remote.old why file path.now answer remote.new) }
+{
+    match why {
+        Why::Refused(status) => take_back(alloc, remote, file, path, Why::Refused(status)),
+        other => Ok(Answer::Left(other)),
+    }
+}
+
+/// A file that was made is taken back where it wasn't stored.
+fn take_after<R: Remote>(
+    alloc: Global,
+    remote: &mut R,
+    file: u64,
+    path: &[Name],
+    stored: Answer,
+) -> Result<Answer, AllocError>
+    ensures { IfOk result (λ answer. TakesAfter R.asks remote.old (failure_of stored) file path.now stored answer remote.new) }
+{
+    match failure_of(&stored) {
+        Some(why) => take_for(alloc, remote, why, file, path),
+        None => Ok(stored),
+    }
+}
+
+/// These bytes become the content of a file that was made, which is opened by its id. Where the server refuses them it
+/// is removed again: empty, it would stand for the content of the file that the bytes are of.
 fn store_made<R: Remote>(
     alloc: Global,
     remote: &mut R,
     file: u64,
+    path: &[Name],
     bytes: Bytes,
 ) -> Result<Answer, AllocError>
-    ensures { IfOk result (λ answer. StoresMade R.asks remote.old file bytes answer remote.new) }
+    ensures { IfOk result (λ answer. StoresMade R.asks remote.old file path.now bytes answer remote.new) }
 {
     let opened = renew_id(alloc, remote, file);
     let stored = store_opened(alloc, remote, opened, bytes)?;
-    Ok(made_as(stored))
+    take_after(alloc, remote, file, path, stored)
 }
 
 /// Whether there is no such file.
@@ -296,7 +396,7 @@ pub fn make<R: Remote>(
 {
     let made = ask_on(alloc, remote, Deed::Make, path)?;
     match made_file(&made) {
-        Some(file) => store_made(alloc, remote, file, bytes),
+        Some(file) => store_made(alloc, remote, file, path, bytes),
         None => make_else(alloc, remote, path, bytes, made),
     }
 }
