@@ -5,7 +5,7 @@ ghost use Rattle.command_text.specs.declared.content.Part.TheVariants as part;
 ghost use Rattle.shell_walks.specs.Storing.{is_done, is_closed, made_file, opened_file, failed_as, failure_of, closed_as, left_as, renewed_as};
 ghost use Rattle.shell_walks.specs.Storing.{Replaces, Abandons, AbandonsIf, Stores, StoresIf};
 ghost use Rattle.shell_walks.specs.Storing.{RenewsId, RenewsIf};
-ghost use Rattle.shell_walks.specs.Storing.{is_as_made, is_unstored, taken_as, TakesOut, TakesIf, TakesBack, TakesFor, TakesAfter};
+ghost use Rattle.shell_walks.specs.Storing.{is_as_made, is_unstored, taken_as, TakesOut, TakesBack, TakesAfter};
 ghost use Rattle.shell_walks.specs.Storing.{RenewsSeen, Renews, StoresAt, StoresMade, is_missing, may_store, MakesElse, Makes, StoresChanged, PutsOpen, MakesUnless, Opens, Puts};
 
 use crate::asking::{Deed, ask_on, open};
@@ -225,20 +225,14 @@ fn store_at<R: Remote>(
     ensures { IfOk result (λ answer. StoresAt R.asks remote.old path.now bytes answer remote.new) }
 {
     let opened = renew(alloc, remote, path)?;
-    match opened_file(&opened) {
-        Some(file) => store(alloc, remote, file, bytes),
-        None => Ok(failed_as(&opened)),
-    }
+    store_opened(alloc, remote, opened, bytes)
 }
 
-/// The version of a file that was made: each storing makes it larger.
-const MADE: u64 = 1;
-
-/// Whether it is the file that was made, and nobody stored in it.
+/// Whether it is the file that was made, and nobody stored in it: each storing makes its version larger.
 fn is_as_made(file: u64, seen: Seen) -> bool
     ensures { result ≡ is_as_made file seen }
 {
-    !seen.is_dir && seen.id == file && seen.version == MADE && seen.len == 0
+    !seen.is_dir && seen.id == file && seen.version == 1 && seen.len == 0
 }
 
 /// Whether a look told that the file that was made is at its path, and that nobody stored in it.
@@ -274,24 +268,7 @@ fn take_out<R: Remote>(
     Ok(taken_as(why, &gone))
 }
 
-/// It is removed where it is as it was made, and else it may stay.
-fn take_if<R: Remote>(
-    alloc: Global,
-    remote: &mut R,
-    is_unstored: bool,
-    path: &[Name],
-    why: Why,
-) -> Result<Answer, AllocError>
-    ensures { IfOk result (λ answer. TakesIf R.asks remote.old is_unstored path.now why answer remote.new) }
-{
-    if is_unstored {
-        take_out(alloc, remote, path, why)
-    } else {
-        Ok(Answer::Left(why))
-    }
-}
-
-/// The path of a file that was made is looked at, and the file removed where it is still that one.
+/// The path of a file that was made is looked at, and the file removed where it is as it was made; else it may stay.
 fn take_back<R: Remote>(
     alloc: Global,
     remote: &mut R,
@@ -302,27 +279,15 @@ fn take_back<R: Remote>(
     ensures { IfOk result (λ answer. TakesBack R.asks remote.old file path.now why answer remote.new) }
 {
     let looked = ask_on(alloc, remote, Deed::Look, path)?;
-    take_if(alloc, remote, is_unstored(file, &looked), path, why)
+    if is_unstored(file, &looked) {
+        take_out(alloc, remote, path, why)
+    } else {
+        Ok(Answer::Left(why))
+    }
 }
 
 /// A file that was made is taken back where the server refused its bytes. Where the connection was lost they may still
 /// be stored.
-fn take_for<R: Remote>(
-    alloc: Global,
-    remote: &mut R,
-    why: Why,
-    file: u64,
-    path: &[Name],
-) -> Result<Answer, AllocError>
-    ensures { IfOk result (λ answer. TakesFor R.asks remote.old why file path.now answer remote.new) }
-{
-    match why {
-        Why::Refused(status) => take_back(alloc, remote, file, path, Why::Refused(status)),
-        other => Ok(Answer::Left(other)),
-    }
-}
-
-/// A file that was made is taken back where it wasn't stored.
 fn take_after<R: Remote>(
     alloc: Global,
     remote: &mut R,
@@ -333,7 +298,8 @@ fn take_after<R: Remote>(
     ensures { IfOk result (λ answer. TakesAfter R.asks remote.old (failure_of stored) file path.now stored answer remote.new) }
 {
     match failure_of(&stored) {
-        Some(why) => take_for(alloc, remote, why, file, path),
+        Some(Why::Refused(status)) => take_back(alloc, remote, file, path, Why::Refused(status)),
+        Some(other) => Ok(Answer::Left(other)),
         None => Ok(stored),
     }
 }
