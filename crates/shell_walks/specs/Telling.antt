@@ -1,5 +1,5 @@
 -- What is written, and said, of what a command came to.
-use Rattle.std.specs.Prelude.{◌≡◌, ℕ, ◌-◌, List, [], ◌∷◌, ◌++◌, Bool, true, false, length, replicate, ◌==◌, Result, Ok, Err, codes, decimal, if◌then◌else◌}
+use Rattle.std.specs.Prelude.{ℕ, ◌-◌, List, [], ◌∷◌, ◌++◌, Bool, true, false, length, replicate, ◌==◌, codes, decimal, if◌then◌else◌}
 use Rattle.shell_words.specs.Quoting.{quoted}
 use Rattle.shell_words.specs.declared.mistake.Mistake.{Mistake}
 use Rattle.shell_words.specs.declared.mistake.Mistake.TheVariants as mistake
