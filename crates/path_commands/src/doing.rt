@@ -6,7 +6,8 @@ ghost use Rattle.shell_walks.specs.Telling.{left_text, notes};
 ghost use Rattle.shell_walks.specs.declared.asking.Deed.TheVariants as deeds;
 ghost use Rattle.path_commands.specs.Doing.{Does, Stats, RemovesFile, is_dir_told, is_missing, is_known, made_told, directory_told, file_text, file_told, LooksAt, is_file, ListsFile};
 ghost use Rattle.path_commands.specs.Doing.{with_long, is_answered, with_left, ListsLong, ListsOn, Lists, is_there, unmade_of, MakesAll, way_told, WayIf, LooksAbove, MakesWay};
-ghost use Rattle.path_commands.specs.Doing.{RemovesAll, last_of, named_in, place_of, is_refused, is_free, at_fault, LooksBack, TellsRename, Renames, new_told, RenamesNew, MovesNew, MovesAs, MovesIf, Moves, OnPath};
+ghost use Rattle.path_commands.specs.Doing.{RemovesAll, last_of, named_in, place_of, is_refused, is_free, at_fault, LooksBack};
+ghost use Rattle.path_commands.specs.Doing.{TellsRename, Renames, new_told, RenamesNew, MovesNew, MovesAs, MovesIf, Moves, OnPath};
 
 use command_text::path::Path;
 use lb_base::items::{Bytes, Items, Name};

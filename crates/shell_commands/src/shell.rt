@@ -5,7 +5,8 @@ ghost use Rattle.std.specs.Prelude.{◌≡◌, ◌++◌, codes, IfOk, OnOk};
 ghost use Rattle.shell_words.specs.Paths.{above};
 ghost use Rattle.shell_walks.specs.Telling.{fine, path_text};
 ghost use Rattle.shell_commands.specs.Here.{IsFolderOf, is_name_here, name_got};
-ghost use Rattle.shell_commands.specs.Lines.{mistaken_as, operand_of, Names, ends_in, is_slashed, is_dotted, says_dir, fits_dir, dir_named, LooksDir, DirIf, NamesAt, gone_to, Goes, is_over, stood_in, dotted_out, RemovesIf, MovesTo, GetsInto, Gets, name_into, GetsIf, put_storing, sync_storing};
+ghost use Rattle.shell_commands.specs.Lines.{mistaken_as, operand_of, Names, ends_in, is_slashed, is_dotted, says_dir, fits_dir, dir_named, LooksDir, DirIf, NamesAt};
+ghost use Rattle.shell_commands.specs.Lines.{gone_to, Goes, is_over, stood_in, dotted_out, RemovesIf, MovesTo, GetsInto, Gets, name_into, GetsIf, put_storing, sync_storing};
 ghost use Rattle.shell_commands.specs.Lines.{wants_dir, target_if, is_fit, target_as, LooksTarget, TargetsIf, Targets, task_as, StoresTo, Stores};
 ghost use Rattle.shell_commands.specs.Lines.{PutsTo, SyncsTo, PutsFrom, SyncsFrom, RunsPut, RunsSync, DoesPath, DoesNamed, is_mkdir, says_of, RunsNamed, Runs, KeepsFolder, StandsFirst};
 
