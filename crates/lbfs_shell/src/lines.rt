@@ -36,6 +36,11 @@ fn without_blanks(text: &[u8]) -> &[u8] {
     rest
 }
 
+/// Whether a line is meant to say nothing, though blanks stand before its `#`.
+fn is_remark(text: &[u8]) -> bool {
+    without_blanks(text).starts_with(b"#")
+}
+
 /// The words that a line begins with, where it isn't read: its first one, if that can be.
 fn front_words(alloc: Global, text: &[u8]) -> Result<Items<Name>, ReadError> {
     let (front, _rest) = first_part(b' ', without_blanks(text));
@@ -105,7 +110,7 @@ pub(crate) fn line_of(
         Err(error) => {
             let words = front_words(alloc, text)?;
             about.word = Name::copy_of(alloc, first_word(words.as_slice()))?;
-            about.leads = leads_elsewhere(about.word.as_slice());
+            about.leads = !is_remark(text) && leads_elsewhere(about.word.as_slice());
             return Err(error);
         }
     };
