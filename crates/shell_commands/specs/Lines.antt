@@ -49,16 +49,13 @@ Names dir word (named.Mistaken told) = (m : Mistake) × (path_of dir word ≡ Er
 
 -- ---- a word that ends with a slash, with `/.` or with `/..`: no file has the path
 
-abbrev pub ends_in : (tail word : List ℕ) → Bool
-ends_in tail word = bytes_eq (drop (length word - length tail) word) tail
-
 -- `/` names the root, which is there
 abbrev pub is_slashed : (word : List ℕ) → Bool
-is_slashed word = ends_in (codes "/") word && not (bytes_eq word (codes "/"))
+is_slashed word = bytes_eq (drop (length word - 1) word) (codes "/") && not (bytes_eq word (codes "/"))
 
--- so does one that is `.` or `..`
+-- its last part is `.` or `..`, also with slashes behind
 abbrev pub is_dotted : (word : List ℕ) → Bool
-is_dotted word = ends_in (codes "/.") word || ends_in (codes "/..") word || bytes_eq word (codes ".") || bytes_eq word (codes "..")
+is_dotted word = bytes_eq (last_of word) (codes ".") || bytes_eq (last_of word) (codes "..")
 
 abbrev pub says_dir : (word : List ℕ) → Bool
 says_dir word = is_slashed word || is_dotted word

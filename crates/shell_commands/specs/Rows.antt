@@ -7,7 +7,7 @@ use Rattle.shell_walks.specs.declared.remote.Answer.{Answer}
 use Rattle.shell_walks.specs.declared.remote.Answer.TheVariants as answer
 use Rattle.shell_walks.specs.declared.remote.Why.TheVariants as why
 use Rattle.shell_commands.specs.Here.{got_as, is_into, local_in, name_got, plain, source_as}
-use Rattle.shell_commands.specs.Lines.{fits_dir, says_dir, is_fit, is_over, stood_in, dir_named, target_as, wants_dir}
+use Rattle.shell_commands.specs.Lines.{fits_dir, is_dotted, says_dir, is_fit, is_over, stood_in, dir_named, target_as, wants_dir}
 use Rattle.shell_commands.specs.declared.here.NamedLocal.TheVariants as namedlocal
 use Rattle.shell_commands.specs.declared.here.Source.TheVariants as source
 use Rattle.shell_commands.specs.declared.shell.Named.TheVariants as named
@@ -81,6 +81,15 @@ one_dot = refl
 
 pub two_dots : says_dir (codes "..") ≡ true
 two_dots = refl
+
+pub a_dot_with_a_slash : is_dotted (codes "m/two/./") ≡ true
+a_dot_with_a_slash = refl
+
+pub two_dots_with_slashes : is_dotted (codes "m/..//") ≡ true
+two_dots_with_slashes = refl
+
+pub no_dots_at_all : is_dotted (codes "m/two/") ≡ false
+no_dots_at_all = refl
 
 -- a name that begins or ends with dots is a name
 pub a_name_with_a_dot : says_dir (codes "m/two.") ≡ false

@@ -5,7 +5,7 @@ ghost use Rattle.std.specs.Prelude.{◌≡◌, ◌++◌, codes, IfOk, OnOk};
 ghost use Rattle.shell_words.specs.Paths.{above};
 ghost use Rattle.shell_walks.specs.Telling.{fine, path_text};
 ghost use Rattle.shell_commands.specs.Here.{IsFolderOf, is_name_here, name_got};
-ghost use Rattle.shell_commands.specs.Lines.{mistaken_as, operand_of, Names, ends_in, is_slashed, is_dotted, says_dir, fits_dir, dir_named, LooksDir, DirIf, NamesAt};
+ghost use Rattle.shell_commands.specs.Lines.{mistaken_as, operand_of, Names, is_slashed, is_dotted, says_dir, fits_dir, dir_named, LooksDir, DirIf, NamesAt};
 ghost use Rattle.shell_commands.specs.Lines.{gone_to, Goes, is_over, stood_in, dotted_out, RemovesIf, MovesTo, GetsInto, Gets, name_into, GetsIf, put_storing, sync_storing};
 ghost use Rattle.shell_commands.specs.Lines.{wants_dir, target_if, is_fit, target_as, LooksTarget, TargetsIf, Targets, task_as, StoresTo, Stores};
 ghost use Rattle.shell_commands.specs.Lines.{PutsTo, SyncsTo, PutsFrom, SyncsFrom, RunsPut, RunsSync, DoesPath, DoesNamed, is_mkdir, says_of, RunsNamed, Runs, KeepsFolder, StandsFirst};
@@ -86,25 +86,19 @@ fn path_named(alloc: Global, dir: &[Name], word: &[u8]) -> Result<Named, AllocEr
     }
 }
 
-/// Whether a word ends so.
-fn ends_in(tail: &[u8], word: &[u8]) -> bool
-    ensures { result ≡ ends_in tail.now word.now }
-{
-    is(&word[word.len().saturating_sub(tail.len())..], tail)
-}
-
 /// Whether a slash ends a word, other than the root's, which needs no look.
 fn is_slashed(word: &[u8]) -> bool
     ensures { result ≡ is_slashed word.now }
 {
-    ends_in(b"/", word) && !is(word, b"/")
+    is(&word[word.len().saturating_sub(1)..], b"/") && !is(word, b"/")
 }
 
-/// Whether the last part of a word is `.` or `..`.
+/// Whether the last part of a word is `.` or `..`, also with slashes behind.
 fn is_dotted(word: &[u8]) -> bool
     ensures { result ≡ is_dotted word.now }
 {
-    ends_in(b"/.", word) || ends_in(b"/..", word) || is(word, b".") || is(word, b"..")
+    let last = last_of(word);
+    is(last, b".") || is(last, b"..")
 }
 
 /// Whether a word says that a directory has its path.
