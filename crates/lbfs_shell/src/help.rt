@@ -46,7 +46,7 @@ Fetches a file to LOCAL: into it where LOCAL is a folder, and else in its
 place; without LOCAL to the file's own name here. With -r a directory, with all
 that is in it; PATH/. goes to LOCAL itself, also where that is there. A file
 that is replaced keeps its permissions, and of what it has nothing is fetched.
-Nothing is where LOCAL can't be written.
+Nothing is where LOCAL's folder can't be written.
 ";
 
 const PUT: &str = "put [-r] LOCAL [PATH]
