@@ -1,15 +1,18 @@
 -- How the content of a file becomes the host's, over what a client does at any command (`asks`), what it has open (`content`), and what comes of a writing of the host's (`writes`) and of a trial of one (`tries`).
-use Rattle.std.specs.Prelude.{◌≡◌, ℕ, List, length, Option, Some, None, Result, Ok, Err}
+use Rattle.std.specs.Prelude.{◌≡◌, ℕ, ◌==◌, List, [], length, Bool, true, false, Option, Some, None, Result, Ok, Err, if◌then◌else◌}
 use Rattle.command_text.specs.declared.command.Command.{Command}
 use Rattle.command_text.specs.declared.command.Command.TheVariants as command
 use Rattle.shell_walks.specs.Asking.{command_on, AsksOn, Finds}
-use Rattle.shell_walks.specs.Storing.{opened_file}
+use Rattle.shell_walks.specs.Storing.{is_as_made, opened_file}
 use Rattle.shell_walks.specs.Telling.{fine, refused_told, why_of}
 use Rattle.shell_walks.specs.declared.asking.Deed.TheVariants as deed
 use Rattle.shell_walks.specs.declared.fetching.Got.{Got}
 use Rattle.shell_walks.specs.declared.fetching.Got.TheVariants as got
 use Rattle.shell_walks.specs.declared.folder.LocalFault.{LocalFault}
 use Rattle.shell_walks.specs.declared.remote.Answer.{Answer}
+use Rattle.shell_walks.specs.declared.remote.Answer.TheVariants as answer
+use Rattle.shell_walks.specs.declared.remote.Why.{Why}
+use Rattle.shell_walks.specs.declared.remote.Why.TheVariants as why
 use Rattle.shell_walks.specs.declared.told.Told.{Told}
 
 abbrev pub got_of : ℕ → Result Unit LocalFault → Got
@@ -24,16 +27,47 @@ pub record Keeps {R F : Type 0} (asks : R → Command → Answer → R → Type 
   pub abandons : asks old (command.Abandon file) answer new
   pub told : g ≡ got_of (length (content old file)) wrote
 
-abbrev pub GetsIf : {R F : Type 0} → (asks : R → Command → Answer → R → Type 0) → (content : R → ℕ → List ℕ) → (writes : F → List ℕ → List ℕ → Result Unit LocalFault → F → Type 0) → R → F → Option ℕ → Answer → List ℕ → Got → R → F → Type 0
-GetsIf asks content writes old host (Some file) opened local g new host' = Keeps asks content writes old host file local g new host'
-GetsIf asks content writes old host None opened local g new host' = (new ≡ old) × (host' ≡ host) × (g ≡ got.Refused (why_of opened))
+-- ---- one that has no bytes: it may be one that was made and that nobody stored in yet
+
+-- why no bytes aren't written, if they aren't: nothing is stored in that file, or the look doesn't tell
+abbrev pub withheld : (file : ℕ) → (looked : Answer) → Option Why
+withheld file (answer.Seen seen) = if is_as_made file seen then Some why.Unstored else None
+withheld file looked = Some (why_of looked)
+
+pub record KeepsNone {F : Type 0} (writes : F → List ℕ → List ℕ → Result Unit LocalFault → F → Type 0) (host : F) (local : List ℕ) (g : Got) (host' : F) : Type 0 where
+  pub wrote : Result Unit LocalFault
+  pub written : writes host local [] wrote host'
+  pub told : g ≡ got_of 0 wrote
+
+abbrev pub KeepsUnless : {F : Type 0} → (writes : F → List ℕ → List ℕ → Result Unit LocalFault → F → Type 0) → F → (withheld : Option Why) → List ℕ → Got → F → Type 0
+KeepsUnless writes host (Some w) local g host' = (host' ≡ host) × (g ≡ got.Refused w)
+KeepsUnless writes host None local g host' = KeepsNone writes host local g host'
+
+-- it is abandoned, and its path looked at, before anything is written
+pub record KeepsLooked {R F : Type 0} (asks : R → Command → Answer → R → Type 0) (writes : F → List ℕ → List ℕ → Result Unit LocalFault → F → Type 0) (old : R) (host : F) (file : ℕ) (path : List (List ℕ)) (local : List ℕ) (g : Got) (new : R) (host' : F) : Type 0 where
+  pub answer : Answer
+  pub between : R
+  pub abandons : asks old (command.Abandon file) answer between
+  pub looked : Answer
+  pub looks : AsksOn asks between (command_on deed.Look path) looked new
+  pub goes_on : KeepsUnless writes host (withheld file looked) local g host'
+
+abbrev pub KeepsIf : {R F : Type 0} → (asks : R → Command → Answer → R → Type 0) → (content : R → ℕ → List ℕ) → (writes : F → List ℕ → List ℕ → Result Unit LocalFault → F → Type 0) → R → F → (is_empty : Bool) → ℕ → List (List ℕ) → List ℕ → Got → R → F → Type 0
+KeepsIf asks content writes old host true file path local g new host' = KeepsLooked asks writes old host file path local g new host'
+KeepsIf asks content writes old host false file path local g new host' = Keeps asks content writes old host file local g new host'
+
+-- ---- a file that is fetched
+
+abbrev pub GetsIf : {R F : Type 0} → (asks : R → Command → Answer → R → Type 0) → (content : R → ℕ → List ℕ) → (writes : F → List ℕ → List ℕ → Result Unit LocalFault → F → Type 0) → R → F → Option ℕ → Answer → List (List ℕ) → List ℕ → Got → R → F → Type 0
+GetsIf asks content writes old host (Some file) opened path local g new host' = KeepsIf asks content writes old host (length (content old file) == 0) file path local g new host'
+GetsIf asks content writes old host None opened path local g new host' = (new ≡ old) × (host' ≡ host) × (g ≡ got.Refused (why_of opened))
 
 -- the file is opened, and kept where it was
 pub record Fetches {R F : Type 0} (asks : R → Command → Answer → R → Type 0) (content : R → ℕ → List ℕ) (writes : F → List ℕ → List ℕ → Result Unit LocalFault → F → Type 0) (old : R) (host : F) (id : Option ℕ) (path : List (List ℕ)) (local : List ℕ) (g : Got) (new : R) (host' : F) : Type 0 where
   pub opened : Answer
   pub between : R
   pub opens : Finds asks old id path opened between
-  pub goes_on : GetsIf asks content writes between host (opened_file opened) opened local g new host'
+  pub goes_on : GetsIf asks content writes between host (opened_file opened) opened path local g new host'
 
 -- nothing is asked for where it can't be written here
 abbrev pub GetsAfter : {R F : Type 0} → (asks : R → Command → Answer → R → Type 0) → (content : R → ℕ → List ℕ) → (writes : F → List ℕ → List ℕ → Result Unit LocalFault → F → Type 0) → R → F → Result Unit LocalFault → Option ℕ → List (List ℕ) → List ℕ → Got → R → F → Type 0

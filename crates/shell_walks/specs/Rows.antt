@@ -1,5 +1,6 @@
--- Worked rows of what becomes of a file that was made, and then wasn't stored.
-use Rattle.std.specs.Prelude.{◌≡◌, ℕ, true, false, refl}
+-- Worked rows of what becomes of a file that was made, and then wasn't stored: by whoever made it, and by a fetch.
+use Rattle.std.specs.Prelude.{◌≡◌, ℕ, true, false, Some, None, refl}
+use Rattle.shell_walks.specs.Fetching.{withheld}
 use Rattle.shell_walks.specs.Storing.{is_unstored, taken_as}
 use Rattle.shell_walks.specs.declared.remote.Answer.{Answer}
 use Rattle.shell_walks.specs.declared.remote.Answer.TheVariants as answer
@@ -34,3 +35,32 @@ gone_again = refl
 
 pub may_stay : taken_as (why.Refused 5) (answer.Failed why.Lost) ≡ answer.Left (why.Refused 5)
 may_stay = refl
+
+-- ---- a fetch of a file that has no bytes
+
+pub it_is_put_just_now : withheld 7 (file_seen 7 1 0) ≡ Some why.Unstored
+it_is_put_just_now = refl
+
+-- no bytes were stored in it, or it has some by now
+pub it_was_stored_empty : withheld 7 (file_seen 7 2 0) ≡ None
+it_was_stored_empty = refl
+
+pub it_has_bytes_by_now : withheld 7 (file_seen 7 1 3) ≡ None
+it_has_bytes_by_now = refl
+
+-- what another's version is says nothing of the one that was open
+pub its_path_is_anothers : withheld 7 (file_seen 8 1 0) ≡ None
+its_path_is_anothers = refl
+
+pub its_path_is_a_directorys : withheld 7 (answer.Seen (record { id = 7; is_dir = true; version = 1; len = 0 })) ≡ None
+its_path_is_a_directorys = refl
+
+-- a look that fails tells nothing
+pub its_look_is_cut : withheld 7 (answer.Failed why.Cut) ≡ Some why.Cut
+its_look_is_cut = refl
+
+pub nothing_has_its_path : withheld 7 (answer.Failed (why.Refused 2)) ≡ Some (why.Refused 2)
+nothing_has_its_path = refl
+
+pub its_look_tells_something_else : withheld 7 answer.Done ≡ Some why.Order
+its_look_tells_something_else = refl

@@ -34,6 +34,8 @@ pub enum Why {
     Root,
     /// Memory ran out.
     Memory,
+    /// It was made, and nothing is stored in it yet: somebody puts it, or a put of it was stopped.
+    Unstored,
 }
 
 /// What a name stands for.

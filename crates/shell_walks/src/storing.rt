@@ -229,7 +229,7 @@ fn store_at<R: Remote>(
 }
 
 /// Whether it is the file that was made, and nobody stored in it: each storing makes its version larger.
-fn is_as_made(file: u64, seen: Seen) -> bool
+pub(crate) fn is_as_made(file: u64, seen: Seen) -> bool
     ensures { result ≡ is_as_made file seen }
 {
     !seen.is_dir && seen.id == file && seen.version == 1 && seen.len == 0

@@ -117,6 +117,9 @@ pub fn put_why(alloc: Global, out: &mut Bytes, why: Why) -> Result<(), AllocErro
         Why::BadPeer(fault) => put_bad_peer(alloc, out, fault),
         Why::Root => out.extend_from_slice(b"the root is there and stays"),
         Why::Memory => out.extend_from_slice(b"no memory is left"),
+        Why::Unstored => out.extend_from_slice(
+            b"nothing is stored in it yet (a put goes on, or was stopped)",
+        ),
     }
 }
 
