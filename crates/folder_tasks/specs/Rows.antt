@@ -6,7 +6,7 @@ use Rattle.shell_walks.specs.declared.tasks.Storing.{Storing}
 use Rattle.shell_walks.specs.declared.tasks.Task.TheVariants as task
 use Rattle.folder_tasks.specs.Getting.{makes_folder}
 use Rattle.folder_tasks.specs.Putting.{again_if, in_known, in_listed, stored_as}
-use Rattle.folder_tasks.specs.Visiting.{removed_as}
+use Rattle.folder_tasks.specs.Visiting.{refused_as, removed_as}
 
 abbrev cleaning : Storing
 cleaning = record { deep = true; changed_only = true; deletes = true; fresh = false; inner = true; id = None }
@@ -41,3 +41,7 @@ a_file_to_a_slash = refl
 
 pub no_slash_here : makes_folder true (codes "./nw") ≡ false
 no_slash_here = refl
+
+-- a file that nobody stored in yet is said, by its path at the server, and not counted
+pub nothing_is_stored_yet : refused_as (codes "d" ∷ codes "a" ∷ []) why.Unstored ≡ record { more = []; note = codes "/d/a: nothing is stored in it yet (a put goes on, or was stopped)\n"; news = []; files = 0; bytes = 0; is_off = false; left = 0 }
+nothing_is_stored_yet = refl
