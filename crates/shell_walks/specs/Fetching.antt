@@ -1,5 +1,5 @@
 -- How the content of a file becomes the host's, over what a client does at any command (`asks`), what it has open (`content`), and what comes of a writing of the host's (`writes`) and of a trial of one (`tries`).
-use Rattle.std.specs.Prelude.{◌≡◌, ℕ, ◌==◌, List, [], length, Bool, true, false, Option, Some, None, Result, Ok, Err, if◌then◌else◌}
+use Rattle.std.specs.Prelude.{◌≡◌, ℕ, ◌==◌, ◌&&◌, List, [], length, Bool, true, false, not, Option, Some, None, Result, Ok, Err, if◌then◌else◌}
 use Rattle.command_text.specs.declared.command.Command.{Command}
 use Rattle.command_text.specs.declared.command.Command.TheVariants as command
 use Rattle.shell_walks.specs.Asking.{command_on, AsksOn, Finds}
@@ -11,6 +11,7 @@ use Rattle.shell_walks.specs.declared.fetching.Got.TheVariants as got
 use Rattle.shell_walks.specs.declared.folder.LocalFault.{LocalFault}
 use Rattle.shell_walks.specs.declared.remote.Answer.{Answer}
 use Rattle.shell_walks.specs.declared.remote.Answer.TheVariants as answer
+use Rattle.shell_walks.specs.declared.remote.Seen.{Seen}
 use Rattle.shell_walks.specs.declared.remote.Why.{Why}
 use Rattle.shell_walks.specs.declared.remote.Why.TheVariants as why
 use Rattle.shell_walks.specs.declared.told.Told.{Told}
@@ -29,9 +30,16 @@ pub record Keeps {R F : Type 0} (asks : R → Command → Answer → R → Type 
 
 -- ---- one that has no bytes: it may be one that was made and that nobody stored in yet
 
--- why no bytes aren't written, if they aren't: nothing is stored in that file, or the look doesn't tell
+-- no bytes are written where that file has none still, and somebody stored that
+abbrev pub withheld_seen : (file : ℕ) → Seen → Option Why
+withheld_seen file seen =
+    if is_as_made file seen then Some why.Unstored
+    else if not seen.is_dir && seen.id == file && seen.len == 0 then None
+    else Some why.Changed
+
+-- why no bytes aren't written, if they aren't: nothing is stored in that file, it changed since, or the look doesn't tell
 abbrev pub withheld : (file : ℕ) → (looked : Answer) → Option Why
-withheld file (answer.Seen seen) = if is_as_made file seen then Some why.Unstored else None
+withheld file (answer.Seen seen) = withheld_seen file seen
 withheld file looked = Some (why_of looked)
 
 pub record KeepsNone {F : Type 0} (writes : F → List ℕ → List ℕ → Result Unit LocalFault → F → Type 0) (host : F) (local : List ℕ) (g : Got) (host' : F) : Type 0 where

@@ -41,18 +41,17 @@ may_stay = refl
 pub it_is_put_just_now : withheld 7 (file_seen 7 1 0) ≡ Some why.Unstored
 it_is_put_just_now = refl
 
--- no bytes were stored in it, or it has some by now
 pub it_was_stored_empty : withheld 7 (file_seen 7 2 0) ≡ None
 it_was_stored_empty = refl
 
-pub it_has_bytes_by_now : withheld 7 (file_seen 7 1 3) ≡ None
+-- it has bytes by now, or another has its path: whether somebody had stored in it isn't known
+pub it_has_bytes_by_now : withheld 7 (file_seen 7 2 3) ≡ Some why.Changed
 it_has_bytes_by_now = refl
 
--- what another's version is says nothing of the one that was open
-pub its_path_is_anothers : withheld 7 (file_seen 8 1 0) ≡ None
+pub its_path_is_anothers : withheld 7 (file_seen 8 2 0) ≡ Some why.Changed
 its_path_is_anothers = refl
 
-pub its_path_is_a_directorys : withheld 7 (answer.Seen (record { id = 7; is_dir = true; version = 1; len = 0 })) ≡ None
+pub its_path_is_a_directorys : withheld 7 (answer.Seen (record { id = 8; is_dir = true; version = 1; len = 0 })) ≡ Some why.Changed
 its_path_is_a_directorys = refl
 
 -- a look that fails tells nothing

@@ -2,13 +2,13 @@
 
 ghost use Rattle.std.specs.Prelude.{◌≡◌, ◌==◌, length, false, IfOk, OnErr};
 ghost use Rattle.shell_walks.specs.Storing.{AbandonsIf};
-ghost use Rattle.shell_walks.specs.Fetching.{got_of, withheld, Keeps, KeepsIf, KeepsLooked, KeepsNone, KeepsUnless};
+ghost use Rattle.shell_walks.specs.Fetching.{got_of, withheld, withheld_seen, Keeps, KeepsIf, KeepsLooked, KeepsNone, KeepsUnless};
 ghost use Rattle.shell_walks.specs.Fetching.{Fetches, Gets, CatsOpen, Cats};
 ghost use Rattle.shell_walks.specs.Telling.{fine};
 
 use crate::asking::{Deed, ask_on, open};
 use crate::folder::{Folder, LocalFault};
-use crate::remote::{Answer, Remote, Why};
+use crate::remote::{Answer, Remote, Seen, Why};
 use crate::storing::{is_as_made, opened_file};
 use crate::telling::{refused_told, why_of};
 use crate::told::{Told, fine};
@@ -54,18 +54,26 @@ fn keep_bytes<R: Remote, F: Folder>(
     got_of(len, wrote)
 }
 
+/// Why no bytes aren't written, if they aren't, by what a path stands for. What has bytes by now, or another's path,
+/// changed since it was opened: whether somebody had stored in it then isn't known.
+fn withheld_seen(file: u64, seen: Seen) -> Option<Why>
+    ensures { result ≡ withheld_seen file seen }
+{
+    if is_as_made(file, seen) {
+        Some(Why::Unstored)
+    } else if !seen.is_dir && seen.id == file && seen.len == 0 {
+        None
+    } else {
+        Some(Why::Changed)
+    }
+}
+
 /// Why no bytes aren't written, if they aren't, by what a look told.
 fn withheld(file: u64, looked: &Answer) -> Option<Why>
     ensures { result ≡ withheld file looked.now }
 {
     match looked {
-        Answer::Seen(seen) => {
-            if is_as_made(file, *seen) {
-                Some(Why::Unstored)
-            } else {
-                None
-            }
-        }
+        Answer::Seen(seen) => withheld_seen(file, *seen),
         other => Some(why_of(other)),
     }
 }
