@@ -295,4 +295,14 @@ impl Client {
             None => None,
         }
     }
+
+    /// The version in which the local content of an open file was fetched; none where it isn't open.
+    pub fn version(&self, file: u64) -> Option<u64>
+        ensures { result ≡ option_map (λ l. l.version) (local_at self.now.opened file) }
+    {
+        match self.state.local(file) {
+            Some(local) => Some(local.version),
+            None => None,
+        }
+    }
 }
