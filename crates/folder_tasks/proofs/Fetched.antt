@@ -1,6 +1,7 @@
 -- What follows of what a fetching comes to: which tasks come, which files are counted, and which path is touched.
 use Rattle.std.proofs.Common.{◌≡◌, refl, sym, subst, ℕ, List, [], Bool, true, false, Option, Result, Ok, Err, cond}
 use Rattle.command_text.specs.declared.command.Command.{Command}
+use Rattle.shell_walks.specs.Fetched.{Fetched}
 use Rattle.shell_walks.specs.Telling.{why_of}
 use Rattle.shell_walks.specs.declared.fetching.Got.{Got}
 use Rattle.shell_walks.specs.declared.fetching.Got.TheVariants as got
@@ -64,15 +65,15 @@ as_comes asks finds makes clears old new h h' path local deep id v (got.Refused 
 as_comes asks finds makes clears old new h h' path local deep id v (got.Fault fault) k = (subst (λ (x : Visited). AllCome (task.Get path local deep id) x.more) (sym k.2) tt, k.2)
 
 -- which tasks come, and whether a file is counted
-abbrev Got_so : {R F : Type 0} → (asks : R → Command → Answer → R → Type 0) → (content : R → ℕ → List ℕ) → (writes : F → List ℕ → List ℕ → Result Unit LocalFault → F → Type 0) → (tries : F → List ℕ → Result Unit LocalFault → F → Type 0) → (id : Option ℕ) → (path : List (List ℕ)) → (local : List ℕ) → (deep : Bool) → Visited → Type 0
+abbrev Got_so : {R F : Type 0} → (asks : R → Command → Answer → R → Type 0) → (content : R → ℕ → Fetched) → (writes : F → List ℕ → List ℕ → Result Unit LocalFault → F → Type 0) → (tries : F → List ℕ → Result Unit LocalFault → F → Type 0) → (id : Option ℕ) → (path : List (List ℕ)) → (local : List ℕ) → (deep : Bool) → Visited → Type 0
 Got_so asks content writes tries id path local deep v = AllCome (task.Get path local deep id) v.more × CountsGot asks content writes tries id path local v
 
-file_comes : {R F : Type 0} (asks : R → Command → Answer → R → Type 0) (content : R → ℕ → List ℕ) (finds : F → Bool → List ℕ → Kind → F → Type 0) (writes : F → List ℕ → List ℕ → Result Unit LocalFault → F → Type 0) (makes tries : F → List ℕ → Result Unit LocalFault → F → Type 0) (clears : F → List ℕ → F → Type 0) (old new : R) (h h' : F) (path : List (List ℕ)) (local : List ℕ) (deep : Bool) (id : Option ℕ) (v : Visited) → GetsFile asks content finds writes makes tries clears old h path local deep id v new h' → Got_so asks content writes tries id path local deep v
+file_comes : {R F : Type 0} (asks : R → Command → Answer → R → Type 0) (content : R → ℕ → Fetched) (finds : F → Bool → List ℕ → Kind → F → Type 0) (writes : F → List ℕ → List ℕ → Result Unit LocalFault → F → Type 0) (makes tries : F → List ℕ → Result Unit LocalFault → F → Type 0) (clears : F → List ℕ → F → Type 0) (old new : R) (h h' : F) (path : List (List ℕ)) (local : List ℕ) (deep : Bool) (id : Option ℕ) (v : Visited) → GetsFile asks content finds writes makes tries clears old h path local deep id v new h' → Got_so asks content writes tries id path local deep v
 file_comes asks content finds writes makes tries clears old new h h' path local deep id v k =
     let e : AllCome (task.Get path local deep id) v.more × EndsGet path local k.got v = as_comes asks finds makes clears k.between new k.here h' path local deep id v k.got k.goes_on in
     (e.0, fetched old k.between h k.here k.got k.gets e.1)
 
-uncounted : {R F : Type 0} (asks : R → Command → Answer → R → Type 0) (content : R → ℕ → List ℕ) (writes : F → List ℕ → List ℕ → Result Unit LocalFault → F → Type 0) (tries : F → List ℕ → Result Unit LocalFault → F → Type 0) (path : List (List ℕ)) (local : List ℕ) (deep : Bool) (id : Option ℕ) (v : Visited) → Fine (task.Get path local deep id) v → Got_so asks content writes tries id path local deep v
+uncounted : {R F : Type 0} (asks : R → Command → Answer → R → Type 0) (content : R → ℕ → Fetched) (writes : F → List ℕ → List ℕ → Result Unit LocalFault → F → Type 0) (tries : F → List ℕ → Result Unit LocalFault → F → Type 0) (path : List (List ℕ)) (local : List ℕ) (deep : Bool) (id : Option ℕ) (v : Visited) → Fine (task.Get path local deep id) v → Got_so asks content writes tries id path local deep v
 uncounted asks content writes tries path local deep id v k = (k.0, not_fetched k.1)
 
 into_as_fine : (t : Task) (path : List (List ℕ)) (local : List ℕ) (v : Visited) (b : Bool) → v ≡ cond b (not_deep_as path) (faulty_as local faults.IsFolder) → Fine t v
@@ -87,17 +88,17 @@ into_fine : {R F : Type 0} (asks : R → Command → Answer → R → Type 0) (f
 into_fine asks finds makes clears old new h h' path local deep id v true k = listed_fine asks finds makes clears k.between new h h' path local deep id v k.listing k.goes_on
 into_fine asks finds makes clears old new h h' path local deep id v false k = not_into_fine (task.Get path local deep id) path local v k.1.looked k.1.is_told
 
-new_comes : {R F : Type 0} (asks : R → Command → Answer → R → Type 0) (content : R → ℕ → List ℕ) (finds : F → Bool → List ℕ → Kind → F → Type 0) (writes : F → List ℕ → List ℕ → Result Unit LocalFault → F → Type 0) (makes tries : F → List ℕ → Result Unit LocalFault → F → Type 0) (clears : F → List ℕ → F → Type 0) (old new : R) (h h' : F) (path : List (List ℕ)) (local : List ℕ) (deep : Bool) (id : Option ℕ) (v : Visited) (b : Bool) → GetsNew asks content finds writes makes tries clears old h b path local deep id v new h' → Got_so asks content writes tries id path local deep v
+new_comes : {R F : Type 0} (asks : R → Command → Answer → R → Type 0) (content : R → ℕ → Fetched) (finds : F → Bool → List ℕ → Kind → F → Type 0) (writes : F → List ℕ → List ℕ → Result Unit LocalFault → F → Type 0) (makes tries : F → List ℕ → Result Unit LocalFault → F → Type 0) (clears : F → List ℕ → F → Type 0) (old new : R) (h h' : F) (path : List (List ℕ)) (local : List ℕ) (deep : Bool) (id : Option ℕ) (v : Visited) (b : Bool) → GetsNew asks content finds writes makes tries clears old h b path local deep id v new h' → Got_so asks content writes tries id path local deep v
 new_comes asks content finds writes makes tries clears old new h h' path local deep id v true k = uncounted asks content writes tries path local deep id v (listed_fine asks finds makes clears k.between new h h' path local deep id v k.listing k.goes_on)
 new_comes asks content finds writes makes tries clears old new h h' path local deep id v false k = file_comes asks content finds writes makes tries clears old new h h' path local deep id v k
 
-kind_comes : {R F : Type 0} (asks : R → Command → Answer → R → Type 0) (content : R → ℕ → List ℕ) (offers : R → List ℕ → R → Type 0) (finds : F → Bool → List ℕ → Kind → F → Type 0) (reads : F → List ℕ → Result (List ℕ) LocalFault → F → Type 0) (writes : F → List ℕ → List ℕ → Result Unit LocalFault → F → Type 0) (makes tries : F → List ℕ → Result Unit LocalFault → F → Type 0) (clears : F → List ℕ → F → Type 0) (old new : R) (h h' : F) (path : List (List ℕ)) (local : List ℕ) (deep : Bool) (id : Option ℕ) (v : Visited) (kind : Kind) → GetsKind asks content offers finds reads writes makes tries clears old h kind path local deep id v new h' → Got_so asks content writes tries id path local deep v
+kind_comes : {R F : Type 0} (asks : R → Command → Answer → R → Type 0) (content : R → ℕ → Fetched) (offers : R → List ℕ → R → Type 0) (finds : F → Bool → List ℕ → Kind → F → Type 0) (reads : F → List ℕ → Result (List ℕ) LocalFault → F → Type 0) (writes : F → List ℕ → List ℕ → Result Unit LocalFault → F → Type 0) (makes tries : F → List ℕ → Result Unit LocalFault → F → Type 0) (clears : F → List ℕ → F → Type 0) (old new : R) (h h' : F) (path : List (List ℕ)) (local : List ℕ) (deep : Bool) (id : Option ℕ) (v : Visited) (kind : Kind) → GetsKind asks content offers finds reads writes makes tries clears old h kind path local deep id v new h' → Got_so asks content writes tries id path local deep v
 kind_comes asks content offers finds reads writes makes tries clears old new h h' path local deep id v kinds.Folder k = uncounted asks content writes tries path local deep id v (into_fine asks finds makes clears old new h h' path local deep id v deep k)
 kind_comes asks content offers finds reads writes makes tries clears old new h h' path local deep id v kinds.File k = file_comes asks content finds writes makes tries clears k.between new k.here h' path local deep id v k.goes_on
 kind_comes asks content offers finds reads writes makes tries clears old new h h' path local deep id v (kinds.Hidden fault) k = uncounted asks content writes tries path local deep id v (none_fine (task.Get path local deep id) v _ k.2 refl refl)
 kind_comes asks content offers finds reads writes makes tries clears old new h h' path local deep id v kind k = new_comes asks content finds writes makes tries clears old new h h' path local deep id v (makes_folder deep local) k
 
-pub at_comes : {R F : Type 0} (asks : R → Command → Answer → R → Type 0) (content : R → ℕ → List ℕ) (offers : R → List ℕ → R → Type 0) (finds : F → Bool → List ℕ → Kind → F → Type 0) (reads : F → List ℕ → Result (List ℕ) LocalFault → F → Type 0) (writes : F → List ℕ → List ℕ → Result Unit LocalFault → F → Type 0) (makes tries : F → List ℕ → Result Unit LocalFault → F → Type 0) (clears : F → List ℕ → F → Type 0) (old new : R) (h h' : F) (path : List (List ℕ)) (local : List ℕ) (deep : Bool) (id : Option ℕ) (v : Visited) (b : Bool) → GetsUnless asks content offers finds reads writes makes tries clears old h b path local deep id v new h' → Got_so asks content writes tries id path local deep v
+pub at_comes : {R F : Type 0} (asks : R → Command → Answer → R → Type 0) (content : R → ℕ → Fetched) (offers : R → List ℕ → R → Type 0) (finds : F → Bool → List ℕ → Kind → F → Type 0) (reads : F → List ℕ → Result (List ℕ) LocalFault → F → Type 0) (writes : F → List ℕ → List ℕ → Result Unit LocalFault → F → Type 0) (makes tries : F → List ℕ → Result Unit LocalFault → F → Type 0) (clears : F → List ℕ → F → Type 0) (old new : R) (h h' : F) (path : List (List ℕ)) (local : List ℕ) (deep : Bool) (id : Option ℕ) (v : Visited) (b : Bool) → GetsUnless asks content offers finds reads writes makes tries clears old h b path local deep id v new h' → Got_so asks content writes tries id path local deep v
 at_comes asks content offers finds reads writes makes tries clears old new h h' path local deep id v true k = uncounted asks content writes tries path local deep id v (listed_fine asks finds makes clears k.between new h h' path local deep id v k.listing k.goes_on)
 at_comes asks content offers finds reads writes makes tries clears old new h h' path local deep id v false k = kind_comes asks content offers finds reads writes makes tries clears old new k.here h' path local deep id v k.kind k.goes_on
 
@@ -128,23 +129,23 @@ as_touches asks finds reads writes lists makes tries clears old new h h' path lo
 as_touches asks finds reads writes lists makes tries clears old new h h' path local deep v (got.Refused w) k = else_touches asks finds reads writes lists makes tries clears old new h h' path local deep w v (is_directory_for w) k
 as_touches asks finds reads writes lists makes tries clears old new h h' path local deep v (got.Fault fault) k = stayed local h h' k.1
 
-file_touches : {R F : Type 0} (asks : R → Command → Answer → R → Type 0) (content : R → ℕ → List ℕ) (finds : F → Bool → List ℕ → Kind → F → Type 0) (reads : F → List ℕ → Result (List ℕ) LocalFault → F → Type 0) (writes : F → List ℕ → List ℕ → Result Unit LocalFault → F → Type 0) (lists : F → List ℕ → Result (List (List ℕ)) LocalFault → F → Type 0) (makes tries : F → List ℕ → Result Unit LocalFault → F → Type 0) (clears : F → List ℕ → F → Type 0) (old new : R) (h h' : F) (path : List (List ℕ)) (local : List ℕ) (deep : Bool) (id : Option ℕ) (v : Visited) → GetsFile asks content finds writes makes tries clears old h path local deep id v new h' → Touches finds reads writes lists makes tries clears local h h'
+file_touches : {R F : Type 0} (asks : R → Command → Answer → R → Type 0) (content : R → ℕ → Fetched) (finds : F → Bool → List ℕ → Kind → F → Type 0) (reads : F → List ℕ → Result (List ℕ) LocalFault → F → Type 0) (writes : F → List ℕ → List ℕ → Result Unit LocalFault → F → Type 0) (lists : F → List ℕ → Result (List (List ℕ)) LocalFault → F → Type 0) (makes tries : F → List ℕ → Result Unit LocalFault → F → Type 0) (clears : F → List ℕ → F → Type 0) (old new : R) (h h' : F) (path : List (List ℕ)) (local : List ℕ) (deep : Bool) (id : Option ℕ) (v : Visited) → GetsFile asks content finds writes makes tries clears old h path local deep id v new h' → Touches finds reads writes lists makes tries clears local h h'
 file_touches asks content finds reads writes lists makes tries clears old new h h' path local deep id v k = both local h k.here h' (gets_touch asks content id path local old k.between h k.here k.got k.gets) (as_touches asks finds reads writes lists makes tries clears k.between new k.here h' path local deep v k.got k.goes_on)
 
 into_touches : {R F : Type 0} (asks : R → Command → Answer → R → Type 0) (finds : F → Bool → List ℕ → Kind → F → Type 0) (reads : F → List ℕ → Result (List ℕ) LocalFault → F → Type 0) (writes : F → List ℕ → List ℕ → Result Unit LocalFault → F → Type 0) (lists : F → List ℕ → Result (List (List ℕ)) LocalFault → F → Type 0) (makes tries : F → List ℕ → Result Unit LocalFault → F → Type 0) (clears : F → List ℕ → F → Type 0) (old new : R) (h h' : F) (path : List (List ℕ)) (local : List ℕ) (v : Visited) (b : Bool) → GetsInto asks finds makes clears old h b path local v new h' → Touches finds reads writes lists makes tries clears local h h'
 into_touches asks finds reads writes lists makes tries clears old new h h' path local v true k = listed_touches asks finds reads writes lists makes tries clears k.between new h h' path local v k.listing k.goes_on
 into_touches asks finds reads writes lists makes tries clears old new h h' path local v false k = stayed local h h' k.0
 
-new_touches : {R F : Type 0} (asks : R → Command → Answer → R → Type 0) (content : R → ℕ → List ℕ) (finds : F → Bool → List ℕ → Kind → F → Type 0) (reads : F → List ℕ → Result (List ℕ) LocalFault → F → Type 0) (writes : F → List ℕ → List ℕ → Result Unit LocalFault → F → Type 0) (lists : F → List ℕ → Result (List (List ℕ)) LocalFault → F → Type 0) (makes tries : F → List ℕ → Result Unit LocalFault → F → Type 0) (clears : F → List ℕ → F → Type 0) (old new : R) (h h' : F) (path : List (List ℕ)) (local : List ℕ) (deep : Bool) (id : Option ℕ) (v : Visited) (b : Bool) → GetsNew asks content finds writes makes tries clears old h b path local deep id v new h' → Touches finds reads writes lists makes tries clears local h h'
+new_touches : {R F : Type 0} (asks : R → Command → Answer → R → Type 0) (content : R → ℕ → Fetched) (finds : F → Bool → List ℕ → Kind → F → Type 0) (reads : F → List ℕ → Result (List ℕ) LocalFault → F → Type 0) (writes : F → List ℕ → List ℕ → Result Unit LocalFault → F → Type 0) (lists : F → List ℕ → Result (List (List ℕ)) LocalFault → F → Type 0) (makes tries : F → List ℕ → Result Unit LocalFault → F → Type 0) (clears : F → List ℕ → F → Type 0) (old new : R) (h h' : F) (path : List (List ℕ)) (local : List ℕ) (deep : Bool) (id : Option ℕ) (v : Visited) (b : Bool) → GetsNew asks content finds writes makes tries clears old h b path local deep id v new h' → Touches finds reads writes lists makes tries clears local h h'
 new_touches asks content finds reads writes lists makes tries clears old new h h' path local deep id v true k = listed_touches asks finds reads writes lists makes tries clears k.between new h h' path local v k.listing k.goes_on
 new_touches asks content finds reads writes lists makes tries clears old new h h' path local deep id v false k = file_touches asks content finds reads writes lists makes tries clears old new h h' path local deep id v k
 
-kind_touches : {R F : Type 0} (asks : R → Command → Answer → R → Type 0) (content : R → ℕ → List ℕ) (offers : R → List ℕ → R → Type 0) (finds : F → Bool → List ℕ → Kind → F → Type 0) (reads : F → List ℕ → Result (List ℕ) LocalFault → F → Type 0) (writes : F → List ℕ → List ℕ → Result Unit LocalFault → F → Type 0) (lists : F → List ℕ → Result (List (List ℕ)) LocalFault → F → Type 0) (makes tries : F → List ℕ → Result Unit LocalFault → F → Type 0) (clears : F → List ℕ → F → Type 0) (old new : R) (h h' : F) (path : List (List ℕ)) (local : List ℕ) (deep : Bool) (id : Option ℕ) (v : Visited) (kind : Kind) → GetsKind asks content offers finds reads writes makes tries clears old h kind path local deep id v new h' → Touches finds reads writes lists makes tries clears local h h'
+kind_touches : {R F : Type 0} (asks : R → Command → Answer → R → Type 0) (content : R → ℕ → Fetched) (offers : R → List ℕ → R → Type 0) (finds : F → Bool → List ℕ → Kind → F → Type 0) (reads : F → List ℕ → Result (List ℕ) LocalFault → F → Type 0) (writes : F → List ℕ → List ℕ → Result Unit LocalFault → F → Type 0) (lists : F → List ℕ → Result (List (List ℕ)) LocalFault → F → Type 0) (makes tries : F → List ℕ → Result Unit LocalFault → F → Type 0) (clears : F → List ℕ → F → Type 0) (old new : R) (h h' : F) (path : List (List ℕ)) (local : List ℕ) (deep : Bool) (id : Option ℕ) (v : Visited) (kind : Kind) → GetsKind asks content offers finds reads writes makes tries clears old h kind path local deep id v new h' → Touches finds reads writes lists makes tries clears local h h'
 kind_touches asks content offers finds reads writes lists makes tries clears old new h h' path local deep id v kinds.Folder k = into_touches asks finds reads writes lists makes tries clears old new h h' path local v deep k
 kind_touches asks content offers finds reads writes lists makes tries clears old new h h' path local deep id v kinds.File k = both local h k.here h' (only_read local k.first.bytes h k.here k.first.read) (file_touches asks content finds reads writes lists makes tries clears k.between new k.here h' path local deep id v k.goes_on)
 kind_touches asks content offers finds reads writes lists makes tries clears old new h h' path local deep id v (kinds.Hidden fault) k = stayed local h h' k.1
 kind_touches asks content offers finds reads writes lists makes tries clears old new h h' path local deep id v kind k = new_touches asks content finds reads writes lists makes tries clears old new h h' path local deep id v (makes_folder deep local) k
 
-pub at_touches : {R F : Type 0} (asks : R → Command → Answer → R → Type 0) (content : R → ℕ → List ℕ) (offers : R → List ℕ → R → Type 0) (finds : F → Bool → List ℕ → Kind → F → Type 0) (reads : F → List ℕ → Result (List ℕ) LocalFault → F → Type 0) (writes : F → List ℕ → List ℕ → Result Unit LocalFault → F → Type 0) (lists : F → List ℕ → Result (List (List ℕ)) LocalFault → F → Type 0) (makes tries : F → List ℕ → Result Unit LocalFault → F → Type 0) (clears : F → List ℕ → F → Type 0) (old new : R) (h h' : F) (path : List (List ℕ)) (local : List ℕ) (deep : Bool) (id : Option ℕ) (v : Visited) (b : Bool) → GetsUnless asks content offers finds reads writes makes tries clears old h b path local deep id v new h' → Touches finds reads writes lists makes tries clears local h h'
+pub at_touches : {R F : Type 0} (asks : R → Command → Answer → R → Type 0) (content : R → ℕ → Fetched) (offers : R → List ℕ → R → Type 0) (finds : F → Bool → List ℕ → Kind → F → Type 0) (reads : F → List ℕ → Result (List ℕ) LocalFault → F → Type 0) (writes : F → List ℕ → List ℕ → Result Unit LocalFault → F → Type 0) (lists : F → List ℕ → Result (List (List ℕ)) LocalFault → F → Type 0) (makes tries : F → List ℕ → Result Unit LocalFault → F → Type 0) (clears : F → List ℕ → F → Type 0) (old new : R) (h h' : F) (path : List (List ℕ)) (local : List ℕ) (deep : Bool) (id : Option ℕ) (v : Visited) (b : Bool) → GetsUnless asks content offers finds reads writes makes tries clears old h b path local deep id v new h' → Touches finds reads writes lists makes tries clears local h h'
 at_touches asks content offers finds reads writes lists makes tries clears old new h h' path local deep id v true k = listed_touches asks finds reads writes lists makes tries clears k.between new h h' path local v k.listing k.goes_on
 at_touches asks content offers finds reads writes lists makes tries clears old new h h' path local deep id v false k = first_found true local k.kind h k.here h' k.found (kind_touches asks content offers finds reads writes lists makes tries clears old new k.here h' path local deep id v k.kind k.goes_on)

@@ -2,6 +2,7 @@
 use Rattle.std.proofs.Common.{◌≡◌, refl, sym, subst, ℕ, List, [], ◌∷◌, Bool, true, false, ◌&&◌, Result, OnOk}
 use Rattle.command_text.specs.declared.command.Command.{Command}
 use Rattle.shell_walks.specs.Asking.{command_on, AsksOn}
+use Rattle.shell_walks.specs.Fetched.{Fetched}
 use Rattle.shell_walks.specs.declared.asking.Deed.{Deed}
 use Rattle.shell_walks.specs.declared.asking.Deed.TheVariants as deed
 use Rattle.shell_walks.specs.declared.remote.Answer.{Answer}
@@ -46,5 +47,5 @@ places_over asks path deletes p old new e k = over_if asks path k.before p old k
 
 -- ---- of a whole task
 
-pub spares_put : {R A E : Type 0} (asks : R → Command → Answer → R → Type 0) (content : R → ℕ → List ℕ) (offers : R → List ℕ → R → Type 0) (t : Task) (local : List ℕ) (shown path : List (List ℕ)) (s : Storing) (old new : R) (r : Result A E) → shown ≡ path → t ≡ task.Put local path s → OnOk r (s.deletes ≡ false → SparesPut asks content offers old shown s new) → OnOk r (SparesFor asks content offers t old new)
+pub spares_put : {R A E : Type 0} (asks : R → Command → Answer → R → Type 0) (content : R → ℕ → Fetched) (offers : R → List ℕ → R → Type 0) (t : Task) (local : List ℕ) (shown path : List (List ℕ)) (s : Storing) (old new : R) (r : Result A E) → shown ≡ path → t ≡ task.Put local path s → OnOk r (s.deletes ≡ false → SparesPut asks content offers old shown s new) → OnOk r (SparesFor asks content offers t old new)
 spares_put asks content offers t local shown path s old new r same is h = subst (λ (x : Task). OnOk r (SparesFor asks content offers x old new)) (sym is) (subst (λ (p : List (List ℕ)). OnOk r (s.deletes ≡ false → SparesPut asks content offers old p s new)) same h)

@@ -1,6 +1,7 @@
 -- What follows of what a storing comes to: which tasks come, which files are counted, and what stays.
 use Rattle.std.proofs.Common.{◌≡◌, refl, sym, subst, ap, ◌∙◌, ℕ, List, length, Bool, true, false, ◌&&◌, ◌==◌, Option, Some, None, Result, Ok, Err, inl}
 use Rattle.command_text.specs.declared.command.Command.{Command}
+use Rattle.shell_walks.specs.Fetched.{Fetched}
 use Rattle.shell_walks.specs.Storing.{is_compared, is_kept, Counts.kept, CountsRead.was_read, PutsBytes}
 use Rattle.shell_walks.specs.Tasks.{put_known}
 use Rattle.shell_walks.specs.Telling.{is_dir}
@@ -47,7 +48,7 @@ after_comes : {R : Type 0} (asks : R → Command → Answer → R → Type 0) (o
 after_comes asks old new local path s n a v true k = subst (λ (x : Visited). AllCome (task.Put local path s) x.more) (sym k.1) tt
 after_comes asks old new local path s n a v false k = (else_fine asks old new local path s a v (s.deletes && (s.inner && is_dir a)) refl k).0
 
-read_comes : {R : Type 0} (asks : R → Command → Answer → R → Type 0) (content : R → ℕ → List ℕ) (offers : R → List ℕ → R → Type 0) (old new : R) (local : List ℕ) (path : List (List ℕ)) (s : Storing) (v : Visited) (r : Result (List ℕ) LocalFault) → PutsIfRead asks content offers old local path s r v new → AllCome (task.Put local path s) v.more
+read_comes : {R : Type 0} (asks : R → Command → Answer → R → Type 0) (content : R → ℕ → Fetched) (offers : R → List ℕ → R → Type 0) (old new : R) (local : List ℕ) (path : List (List ℕ)) (s : Storing) (v : Visited) (r : Result (List ℕ) LocalFault) → PutsIfRead asks content offers old local path s r v new → AllCome (task.Put local path s) v.more
 read_comes asks content offers old new local path s v (Ok bytes) k = after_comes asks k.between new local path s (length bytes) k.answer v (is_kept s k.answer) k.goes_on
 read_comes asks content offers old new local path s v (Err fault) k = subst (λ (x : Visited). AllCome (task.Put local path s) x.more) (sym k.1) tt
 
@@ -80,7 +81,7 @@ deep_fine : {R F : Type 0} (asks : R → Command → Answer → R → Type 0) (l
 deep_fine asks lists old new h h' local path s v true k = folder_fine asks old new local path s v k.names k.goes_on
 deep_fine asks lists old new h h' local path s v false k = fine_as (task.Put local path s) v _ k.2 tt refl
 
-pub kind_comes : {R F : Type 0} (asks : R → Command → Answer → R → Type 0) (content : R → ℕ → List ℕ) (offers : R → List ℕ → R → Type 0) (reads : F → List ℕ → Result (List ℕ) LocalFault → F → Type 0) (lists : F → List ℕ → Result (List (List ℕ)) LocalFault → F → Type 0) (old new : R) (h h' : F) (local : List ℕ) (path : List (List ℕ)) (s : Storing) (v : Visited) (kind : Kind) → PutsKind asks content offers reads lists old h kind local path s v new h' → AllCome (task.Put local path s) v.more
+pub kind_comes : {R F : Type 0} (asks : R → Command → Answer → R → Type 0) (content : R → ℕ → Fetched) (offers : R → List ℕ → R → Type 0) (reads : F → List ℕ → Result (List ℕ) LocalFault → F → Type 0) (lists : F → List ℕ → Result (List (List ℕ)) LocalFault → F → Type 0) (old new : R) (h h' : F) (local : List ℕ) (path : List (List ℕ)) (s : Storing) (v : Visited) (kind : Kind) → PutsKind asks content offers reads lists old h kind local path s v new h' → AllCome (task.Put local path s) v.more
 kind_comes asks content offers reads lists old new h h' local path s v kinds.File k = read_comes asks content offers old new local path s v k.bytes k.goes_on
 kind_comes asks content offers reads lists old new h h' local path s v kinds.Folder k = (deep_fine asks lists old new h h' local path s v s.deep k).0
 kind_comes asks content offers reads lists old new h h' local path s v kinds.Missing k = (fine_as (task.Put local path s) v _ k.2 tt refl).0
@@ -90,15 +91,15 @@ kind_comes asks content offers reads lists old new h h' local path s v (kinds.Hi
 
 -- ---- which files are counted
 
-after_counts : {R F : Type 0} (asks : R → Command → Answer → R → Type 0) (content : R → ℕ → List ℕ) (offers : R → List ℕ → R → Type 0) (reads : F → List ℕ → Result (List ℕ) LocalFault → F → Type 0) (old mid new : R) (h h' : F) (local : List ℕ) (path : List (List ℕ)) (s : Storing) (bytes : List ℕ) (a : Answer) (v : Visited) (b : Bool) → is_kept s a ≡ b → reads h local (Ok bytes) h' → PutsBytes asks content offers old path s bytes a mid → PutsAfter asks mid b local path s (length bytes) a v new → CountsPut asks content offers reads old local path s v.files new
+after_counts : {R F : Type 0} (asks : R → Command → Answer → R → Type 0) (content : R → ℕ → Fetched) (offers : R → List ℕ → R → Type 0) (reads : F → List ℕ → Result (List ℕ) LocalFault → F → Type 0) (old mid new : R) (h h' : F) (local : List ℕ) (path : List (List ℕ)) (s : Storing) (bytes : List ℕ) (a : Answer) (v : Visited) (b : Bool) → is_kept s a ≡ b → reads h local (Ok bytes) h' → PutsBytes asks content offers old path s bytes a mid → PutsAfter asks mid b local path s (length bytes) a v new → CountsPut asks content offers reads old local path s v.files new
 after_counts {R = R} asks content offers reads old mid new h h' local path s bytes a v true e r p k = read h h' (was_read bytes r (kept a (subst (λ (x : R). PutsBytes asks content offers old path s bytes a x) (sym k.0) p) e (ap (λ (x : Visited). x.files) k.1)))
 after_counts asks content offers reads old mid new h h' local path s bytes a v false e r p k = not_read (else_fine asks mid new local path s a v (s.deletes && (s.inner && is_dir a)) refl k).1
 
-read_counts : {R F : Type 0} (asks : R → Command → Answer → R → Type 0) (content : R → ℕ → List ℕ) (offers : R → List ℕ → R → Type 0) (reads : F → List ℕ → Result (List ℕ) LocalFault → F → Type 0) (old new : R) (h h' : F) (local : List ℕ) (path : List (List ℕ)) (s : Storing) (v : Visited) (r : Result (List ℕ) LocalFault) → reads h local r h' → PutsIfRead asks content offers old local path s r v new → CountsPut asks content offers reads old local path s v.files new
+read_counts : {R F : Type 0} (asks : R → Command → Answer → R → Type 0) (content : R → ℕ → Fetched) (offers : R → List ℕ → R → Type 0) (reads : F → List ℕ → Result (List ℕ) LocalFault → F → Type 0) (old new : R) (h h' : F) (local : List ℕ) (path : List (List ℕ)) (s : Storing) (v : Visited) (r : Result (List ℕ) LocalFault) → reads h local r h' → PutsIfRead asks content offers old local path s r v new → CountsPut asks content offers reads old local path s v.files new
 read_counts asks content offers reads old new h h' local path s v (Ok bytes) r k = after_counts asks content offers reads old k.between new h h' local path s bytes k.answer v (is_kept s k.answer) refl r k.puts k.goes_on
 read_counts asks content offers reads old new h h' local path s v (Err fault) r k = not_read (ap (λ (x : Visited). x.files) k.1)
 
-pub kind_counts : {R F : Type 0} (asks : R → Command → Answer → R → Type 0) (content : R → ℕ → List ℕ) (offers : R → List ℕ → R → Type 0) (reads : F → List ℕ → Result (List ℕ) LocalFault → F → Type 0) (lists : F → List ℕ → Result (List (List ℕ)) LocalFault → F → Type 0) (old new : R) (h h' : F) (local : List ℕ) (path : List (List ℕ)) (s : Storing) (v : Visited) (kind : Kind) → PutsKind asks content offers reads lists old h kind local path s v new h' → CountsPut asks content offers reads old local path s v.files new
+pub kind_counts : {R F : Type 0} (asks : R → Command → Answer → R → Type 0) (content : R → ℕ → Fetched) (offers : R → List ℕ → R → Type 0) (reads : F → List ℕ → Result (List ℕ) LocalFault → F → Type 0) (lists : F → List ℕ → Result (List (List ℕ)) LocalFault → F → Type 0) (old new : R) (h h' : F) (local : List ℕ) (path : List (List ℕ)) (s : Storing) (v : Visited) (kind : Kind) → PutsKind asks content offers reads lists old h kind local path s v new h' → CountsPut asks content offers reads old local path s v.files new
 kind_counts asks content offers reads lists old new h h' local path s v kinds.File k = read_counts asks content offers reads old new h h' local path s v k.bytes k.read k.goes_on
 kind_counts asks content offers reads lists old new h h' local path s v kinds.Folder k = not_read (deep_fine asks lists old new h h' local path s v s.deep k).1
 kind_counts asks content offers reads lists old new h h' local path s v kinds.Missing k = not_read (ap (λ (x : Visited). x.files) k.2)
@@ -116,7 +117,7 @@ after_asks : {R : Type 0} (asks : R → Command → Answer → R → Type 0) (ol
 after_asks asks old new local path s n a v true spared k = k.0
 after_asks asks old new local path s n a v false spared k = else_asks asks old new local path s a v (s.deletes && (s.inner && is_dir a)) spared refl k
 
-read_spares : {R : Type 0} (asks : R → Command → Answer → R → Type 0) (content : R → ℕ → List ℕ) (offers : R → List ℕ → R → Type 0) (old new : R) (local : List ℕ) (path : List (List ℕ)) (s : Storing) (v : Visited) (r : Result (List ℕ) LocalFault) → s.deletes ≡ false → PutsIfRead asks content offers old local path s r v new → SparesPut asks content offers old path s new
+read_spares : {R : Type 0} (asks : R → Command → Answer → R → Type 0) (content : R → ℕ → Fetched) (offers : R → List ℕ → R → Type 0) (old new : R) (local : List ℕ) (path : List (List ℕ)) (s : Storing) (v : Visited) (r : Result (List ℕ) LocalFault) → s.deletes ≡ false → PutsIfRead asks content offers old local path s r v new → SparesPut asks content offers old path s new
 read_spares {R = R} asks content offers old new local path s v (Ok bytes) spared k = stores bytes (k.answer, subst (λ (x : R). PutsBytes asks content offers old path s bytes k.answer x) (sym (after_asks asks k.between new local path s (length bytes) k.answer v (is_kept s k.answer) spared k.goes_on)) k.puts)
 read_spares asks content offers old new local path s v (Err fault) spared k = looks (unasked new k.0)
 
@@ -144,7 +145,7 @@ deep_spares : {R F : Type 0} (asks : R → Command → Answer → R → Type 0) 
 deep_spares asks lists old new h h' local path s v true spared k = folder_spares asks old new local path s v k.names spared k.goes_on
 deep_spares asks lists old new h h' local path s v false spared k = unasked new k.0
 
-pub kind_spares : {R F : Type 0} (asks : R → Command → Answer → R → Type 0) (content : R → ℕ → List ℕ) (offers : R → List ℕ → R → Type 0) (reads : F → List ℕ → Result (List ℕ) LocalFault → F → Type 0) (lists : F → List ℕ → Result (List (List ℕ)) LocalFault → F → Type 0) (old new : R) (h h' : F) (local : List ℕ) (path : List (List ℕ)) (s : Storing) (v : Visited) (kind : Kind) → PutsKind asks content offers reads lists old h kind local path s v new h' → s.deletes ≡ false → SparesPut asks content offers old path s new
+pub kind_spares : {R F : Type 0} (asks : R → Command → Answer → R → Type 0) (content : R → ℕ → Fetched) (offers : R → List ℕ → R → Type 0) (reads : F → List ℕ → Result (List ℕ) LocalFault → F → Type 0) (lists : F → List ℕ → Result (List (List ℕ)) LocalFault → F → Type 0) (old new : R) (h h' : F) (local : List ℕ) (path : List (List ℕ)) (s : Storing) (v : Visited) (kind : Kind) → PutsKind asks content offers reads lists old h kind local path s v new h' → s.deletes ≡ false → SparesPut asks content offers old path s new
 kind_spares asks content offers reads lists old new h h' local path s v kinds.File k spared = read_spares asks content offers old new local path s v k.bytes spared k.goes_on
 kind_spares asks content offers reads lists old new h h' local path s v kinds.Folder k spared = looks (deep_spares asks lists old new h h' local path s v s.deep spared k)
 kind_spares asks content offers reads lists old new h h' local path s v kinds.Missing k spared = looks (unasked new k.0)

@@ -1,9 +1,10 @@
 -- What tasks leave alone, and which come of them.
-use Rattle.std.proofs.Common.{◌≡◌, refl, sym, subst, ◌∙◌, ℕ, ◌+◌, List, [], ◌∷◌, ◌++◌, slice_get, Bool, true, false, cond, bytes_eq, Option, Some, None, Result, Ok, Err, inr, ◌||◌, not, ◌==◌, length}
+use Rattle.std.proofs.Common.{◌≡◌, refl, sym, subst, ◌∙◌, ℕ, ◌+◌, List, [], ◌∷◌, ◌++◌, slice_get, Bool, true, false, cond, bytes_eq, Option, Some, None, Result, Ok, Err, inr, ◌||◌, not}
 use Rattle.command_text.specs.declared.command.Command.{Command}
 use Rattle.shell_words.specs.Local.{below}
 use Rattle.shell_words.specs.Temporary.{is_carried}
-use Rattle.shell_walks.specs.Fetching.{Gets, GetsAfter, GetsIf, KeepsIf, KeepsUnless, Fetches, withheld}
+use Rattle.shell_walks.specs.Fetched.{Fetched, is_never_stored}
+use Rattle.shell_walks.specs.Fetching.{Gets, GetsAfter, GetsIf, KeepsIf, Fetches}
 use Rattle.shell_walks.specs.Storing.{opened_file}
 use Rattle.shell_walks.specs.Tasks.{unlisted, known, put_more, put_tasks, put_known, get_more, get_tasks, is_among, remove_more, removals}
 use Rattle.folder_tasks.specs.Visiting.{Touches, Touches.untouched, Touches.found, Touches.read, Touches.written, Touches.listed, Touches.made, Touches.tried, Touches.cleared, AllCome}
@@ -12,7 +13,6 @@ use Rattle.shell_walks.specs.declared.folder.Kind.{Kind}
 use Rattle.shell_walks.specs.declared.folder.LocalFault.{LocalFault}
 use Rattle.shell_walks.specs.declared.remote.Answer.{Answer}
 use Rattle.shell_walks.specs.declared.remote.Listed.{Listed}
-use Rattle.shell_walks.specs.declared.remote.Why.{Why}
 use Rattle.shell_walks.specs.declared.tasks.Storing.{Storing}
 use Rattle.shell_walks.specs.declared.tasks.Task.{Task}
 use Rattle.shell_walks.specs.declared.tasks.Task.TheVariants as task
@@ -101,25 +101,21 @@ both local old mid _ t (cleared m n r h) = cleared m n (both local old mid m t r
 pub first_found : {F : Type 0} {finds : F → Bool → List ℕ → Kind → F → Type 0} {reads : F → List ℕ → Result (List ℕ) LocalFault → F → Type 0} {writes : F → List ℕ → List ℕ → Result Unit LocalFault → F → Type 0} {lists : F → List ℕ → Result (List (List ℕ)) LocalFault → F → Type 0} {makes tries : F → List ℕ → Result Unit LocalFault → F → Type 0} {clears : F → List ℕ → F → Type 0} (follows : Bool) (local : List ℕ) (k : Kind) (old mid new : F) → finds old follows local k mid → Touches finds reads writes lists makes tries clears local mid new → Touches finds reads writes lists makes tries clears local old new
 first_found follows local k old mid new h t = both local old mid new (only_found follows local k old mid h) t
 
--- what is fetched is written to that one path, unless it is withheld
-unless_touches : {F : Type 0} {finds : F → Bool → List ℕ → Kind → F → Type 0} {reads : F → List ℕ → Result (List ℕ) LocalFault → F → Type 0} {writes : F → List ℕ → List ℕ → Result Unit LocalFault → F → Type 0} {lists : F → List ℕ → Result (List (List ℕ)) LocalFault → F → Type 0} {makes tries : F → List ℕ → Result Unit LocalFault → F → Type 0} {clears : F → List ℕ → F → Type 0} (local : List ℕ) (host host' : F) (w : Option Why) (g : Got) → KeepsUnless writes host w local g host' → Touches finds reads writes lists makes tries clears local host host'
-unless_touches local host host' (Some w) g k = untouched host' k.0
-unless_touches local host host' None g k = only_written local [] k.wrote host host' k.written
+-- what is fetched is written to that one path, unless nobody stored in it yet
+keeps_if : {F : Type 0} {finds : F → Bool → List ℕ → Kind → F → Type 0} {reads : F → List ℕ → Result (List ℕ) LocalFault → F → Type 0} {writes : F → List ℕ → List ℕ → Result Unit LocalFault → F → Type 0} {lists : F → List ℕ → Result (List (List ℕ)) LocalFault → F → Type 0} {makes tries : F → List ℕ → Result Unit LocalFault → F → Type 0} {clears : F → List ℕ → F → Type 0} {R : Type 0} (asks : R → Command → Answer → R → Type 0) (content : R → ℕ → Fetched) (local : List ℕ) (old new : R) (host host' : F) (is_never_stored : Bool) (file : ℕ) (g : Got) → KeepsIf asks content writes old host is_never_stored file local g new host' → Touches finds reads writes lists makes tries clears local host host'
+keeps_if asks content local old new host host' true file g k = untouched host' k.stays
+keeps_if asks content local old new host host' false file g k = only_written local (content old file).bytes k.wrote host host' k.written
 
-keeps_if : {F : Type 0} {finds : F → Bool → List ℕ → Kind → F → Type 0} {reads : F → List ℕ → Result (List ℕ) LocalFault → F → Type 0} {writes : F → List ℕ → List ℕ → Result Unit LocalFault → F → Type 0} {lists : F → List ℕ → Result (List (List ℕ)) LocalFault → F → Type 0} {makes tries : F → List ℕ → Result Unit LocalFault → F → Type 0} {clears : F → List ℕ → F → Type 0} {R : Type 0} (asks : R → Command → Answer → R → Type 0) (content : R → ℕ → List ℕ) (path : List (List ℕ)) (local : List ℕ) (old new : R) (host host' : F) (is_empty : Bool) (file : ℕ) (g : Got) → KeepsIf asks content writes old host is_empty file path local g new host' → Touches finds reads writes lists makes tries clears local host host'
-keeps_if asks content path local old new host host' true file g k = unless_touches local host host' (withheld file k.looked) g k.goes_on
-keeps_if asks content path local old new host host' false file g k = only_written local (content old file) k.wrote host host' k.written
+gets_if : {F : Type 0} {finds : F → Bool → List ℕ → Kind → F → Type 0} {reads : F → List ℕ → Result (List ℕ) LocalFault → F → Type 0} {writes : F → List ℕ → List ℕ → Result Unit LocalFault → F → Type 0} {lists : F → List ℕ → Result (List (List ℕ)) LocalFault → F → Type 0} {makes tries : F → List ℕ → Result Unit LocalFault → F → Type 0} {clears : F → List ℕ → F → Type 0} {R : Type 0} (asks : R → Command → Answer → R → Type 0) (content : R → ℕ → Fetched) (local : List ℕ) (old new : R) (host host' : F) (o : Option ℕ) (opened : Answer) (g : Got) → GetsIf asks content writes old host o opened local g new host' → Touches finds reads writes lists makes tries clears local host host'
+gets_if asks content local old new host host' (Some file) opened g k = keeps_if asks content local old new host host' (is_never_stored (content old file)) file g k
+gets_if asks content local old new host host' None opened g k = untouched host' k.1
 
-gets_if : {F : Type 0} {finds : F → Bool → List ℕ → Kind → F → Type 0} {reads : F → List ℕ → Result (List ℕ) LocalFault → F → Type 0} {writes : F → List ℕ → List ℕ → Result Unit LocalFault → F → Type 0} {lists : F → List ℕ → Result (List (List ℕ)) LocalFault → F → Type 0} {makes tries : F → List ℕ → Result Unit LocalFault → F → Type 0} {clears : F → List ℕ → F → Type 0} {R : Type 0} (asks : R → Command → Answer → R → Type 0) (content : R → ℕ → List ℕ) (path : List (List ℕ)) (local : List ℕ) (old new : R) (host host' : F) (o : Option ℕ) (opened : Answer) (g : Got) → GetsIf asks content writes old host o opened path local g new host' → Touches finds reads writes lists makes tries clears local host host'
-gets_if asks content path local old new host host' (Some file) opened g k = keeps_if asks content path local old new host host' (length (content old file) == 0) file g k
-gets_if asks content path local old new host host' None opened g k = untouched host' k.1
+fetches_touch : {F : Type 0} {finds : F → Bool → List ℕ → Kind → F → Type 0} {reads : F → List ℕ → Result (List ℕ) LocalFault → F → Type 0} {writes : F → List ℕ → List ℕ → Result Unit LocalFault → F → Type 0} {lists : F → List ℕ → Result (List (List ℕ)) LocalFault → F → Type 0} {makes tries : F → List ℕ → Result Unit LocalFault → F → Type 0} {clears : F → List ℕ → F → Type 0} {R : Type 0} (asks : R → Command → Answer → R → Type 0) (content : R → ℕ → Fetched) (id : Option ℕ) (path : List (List ℕ)) (local : List ℕ) (old new : R) (host host' : F) (g : Got) → Fetches asks content writes old host id path local g new host' → Touches finds reads writes lists makes tries clears local host host'
+fetches_touch asks content id path local old new host host' g k = gets_if asks content local k.between new host host' (opened_file k.opened) k.opened g k.goes_on
 
-fetches_touch : {F : Type 0} {finds : F → Bool → List ℕ → Kind → F → Type 0} {reads : F → List ℕ → Result (List ℕ) LocalFault → F → Type 0} {writes : F → List ℕ → List ℕ → Result Unit LocalFault → F → Type 0} {lists : F → List ℕ → Result (List (List ℕ)) LocalFault → F → Type 0} {makes tries : F → List ℕ → Result Unit LocalFault → F → Type 0} {clears : F → List ℕ → F → Type 0} {R : Type 0} (asks : R → Command → Answer → R → Type 0) (content : R → ℕ → List ℕ) (id : Option ℕ) (path : List (List ℕ)) (local : List ℕ) (old new : R) (host host' : F) (g : Got) → Fetches asks content writes old host id path local g new host' → Touches finds reads writes lists makes tries clears local host host'
-fetches_touch asks content id path local old new host host' g k = gets_if asks content path local k.between new host host' (opened_file k.opened) k.opened g k.goes_on
-
-gets_after : {F : Type 0} {finds : F → Bool → List ℕ → Kind → F → Type 0} {reads : F → List ℕ → Result (List ℕ) LocalFault → F → Type 0} {writes : F → List ℕ → List ℕ → Result Unit LocalFault → F → Type 0} {lists : F → List ℕ → Result (List (List ℕ)) LocalFault → F → Type 0} {makes tries : F → List ℕ → Result Unit LocalFault → F → Type 0} {clears : F → List ℕ → F → Type 0} {R : Type 0} (asks : R → Command → Answer → R → Type 0) (content : R → ℕ → List ℕ) (id : Option ℕ) (path : List (List ℕ)) (local : List ℕ) (old new : R) (host host' : F) (may : Result Unit LocalFault) (g : Got) → GetsAfter asks content writes old host may id path local g new host' → Touches finds reads writes lists makes tries clears local host host'
+gets_after : {F : Type 0} {finds : F → Bool → List ℕ → Kind → F → Type 0} {reads : F → List ℕ → Result (List ℕ) LocalFault → F → Type 0} {writes : F → List ℕ → List ℕ → Result Unit LocalFault → F → Type 0} {lists : F → List ℕ → Result (List (List ℕ)) LocalFault → F → Type 0} {makes tries : F → List ℕ → Result Unit LocalFault → F → Type 0} {clears : F → List ℕ → F → Type 0} {R : Type 0} (asks : R → Command → Answer → R → Type 0) (content : R → ℕ → Fetched) (id : Option ℕ) (path : List (List ℕ)) (local : List ℕ) (old new : R) (host host' : F) (may : Result Unit LocalFault) (g : Got) → GetsAfter asks content writes old host may id path local g new host' → Touches finds reads writes lists makes tries clears local host host'
 gets_after asks content id path local old new host host' (Ok u) g k = fetches_touch asks content id path local old new host host' g k
 gets_after asks content id path local old new host host' (Err fault) g k = untouched host' k.1
 
-pub gets_touch : {F : Type 0} {finds : F → Bool → List ℕ → Kind → F → Type 0} {reads : F → List ℕ → Result (List ℕ) LocalFault → F → Type 0} {writes : F → List ℕ → List ℕ → Result Unit LocalFault → F → Type 0} {lists : F → List ℕ → Result (List (List ℕ)) LocalFault → F → Type 0} {makes tries : F → List ℕ → Result Unit LocalFault → F → Type 0} {clears : F → List ℕ → F → Type 0} {R : Type 0} (asks : R → Command → Answer → R → Type 0) (content : R → ℕ → List ℕ) (id : Option ℕ) (path : List (List ℕ)) (local : List ℕ) (old new : R) (host host' : F) (g : Got) → Gets asks content writes tries old host id path local g new host' → Touches finds reads writes lists makes tries clears local host host'
+pub gets_touch : {F : Type 0} {finds : F → Bool → List ℕ → Kind → F → Type 0} {reads : F → List ℕ → Result (List ℕ) LocalFault → F → Type 0} {writes : F → List ℕ → List ℕ → Result Unit LocalFault → F → Type 0} {lists : F → List ℕ → Result (List (List ℕ)) LocalFault → F → Type 0} {makes tries : F → List ℕ → Result Unit LocalFault → F → Type 0} {clears : F → List ℕ → F → Type 0} {R : Type 0} (asks : R → Command → Answer → R → Type 0) (content : R → ℕ → Fetched) (id : Option ℕ) (path : List (List ℕ)) (local : List ℕ) (old new : R) (host host' : F) (g : Got) → Gets asks content writes tries old host id path local g new host' → Touches finds reads writes lists makes tries clears local host host'
 gets_touch asks content id path local old new host host' g k = both local host k.between host' (only_tried local k.may host k.between k.trial) (gets_after asks content id path local old new k.between host' k.may g k.goes_on)

@@ -2,6 +2,7 @@
 use Rattle.std.specs.Prelude.{◌≡◌, ℕ, ◌==◌, ◌&&◌, List, [], length, drop, ◌-◌, Bool, true, false, Option, Result, Ok, Err, bytes_eq, codes, if◌then◌else◌}
 use Rattle.command_text.specs.declared.command.Command.{Command}
 use Rattle.shell_walks.specs.Asking.{command_on, AsksOn}
+use Rattle.shell_walks.specs.Fetched.{Fetched}
 use Rattle.shell_walks.specs.Fetching.{Gets}
 use Rattle.shell_walks.specs.Tasks.{get_tasks}
 use Rattle.shell_walks.specs.Telling.{why_of}
@@ -119,7 +120,7 @@ GetsAs asks finds makes clears old host path local deep (got.Fine n) v new host'
 GetsAs asks finds makes clears old host path local deep (got.Refused w) v new host' = GetsElse asks finds makes clears old host (is_directory_for w) path local deep w v new host'
 GetsAs asks finds makes clears old host path local deep (got.Fault fault) v new host' = Ends old host v (faulty_as local fault) new host'
 
-pub record GetsFile {R F : Type 0} (asks : R → Command → Answer → R → Type 0) (content : R → ℕ → List ℕ) (finds : F → Bool → List ℕ → Kind → F → Type 0) (writes : F → List ℕ → List ℕ → Result Unit LocalFault → F → Type 0) (makes tries : F → List ℕ → Result Unit LocalFault → F → Type 0) (clears : F → List ℕ → F → Type 0) (old : R) (host : F) (path : List (List ℕ)) (local : List ℕ) (deep : Bool) (id : Option ℕ) (v : Visited) (new : R) (host' : F) : Type 0 where
+pub record GetsFile {R F : Type 0} (asks : R → Command → Answer → R → Type 0) (content : R → ℕ → Fetched) (finds : F → Bool → List ℕ → Kind → F → Type 0) (writes : F → List ℕ → List ℕ → Result Unit LocalFault → F → Type 0) (makes tries : F → List ℕ → Result Unit LocalFault → F → Type 0) (clears : F → List ℕ → F → Type 0) (old : R) (host : F) (path : List (List ℕ)) (local : List ℕ) (deep : Bool) (id : Option ℕ) (v : Visited) (new : R) (host' : F) : Type 0 where
   pub got : Got
   pub between : R
   pub here : F
@@ -138,7 +139,7 @@ pub record OffersFile {R F : Type 0} (offers : R → List ℕ → R → Type 0) 
   pub read : reads host local bytes host'
   pub offered : OffersIf offers old bytes new
 
-pub record GetsOver {R F : Type 0} (asks : R → Command → Answer → R → Type 0) (content : R → ℕ → List ℕ) (offers : R → List ℕ → R → Type 0) (finds : F → Bool → List ℕ → Kind → F → Type 0) (reads : F → List ℕ → Result (List ℕ) LocalFault → F → Type 0) (writes : F → List ℕ → List ℕ → Result Unit LocalFault → F → Type 0) (makes tries : F → List ℕ → Result Unit LocalFault → F → Type 0) (clears : F → List ℕ → F → Type 0) (old : R) (host : F) (path : List (List ℕ)) (local : List ℕ) (deep : Bool) (id : Option ℕ) (v : Visited) (new : R) (host' : F) : Type 0 where
+pub record GetsOver {R F : Type 0} (asks : R → Command → Answer → R → Type 0) (content : R → ℕ → Fetched) (offers : R → List ℕ → R → Type 0) (finds : F → Bool → List ℕ → Kind → F → Type 0) (reads : F → List ℕ → Result (List ℕ) LocalFault → F → Type 0) (writes : F → List ℕ → List ℕ → Result Unit LocalFault → F → Type 0) (makes tries : F → List ℕ → Result Unit LocalFault → F → Type 0) (clears : F → List ℕ → F → Type 0) (old : R) (host : F) (path : List (List ℕ)) (local : List ℕ) (deep : Bool) (id : Option ℕ) (v : Visited) (new : R) (host' : F) : Type 0 where
   pub between : R
   pub here : F
   pub first : OffersFile offers reads old host local between here
@@ -161,17 +162,17 @@ GetsInto asks finds makes clears old host false path local v new host' = (host' 
 abbrev pub makes_folder : (deep : Bool) → (local : List ℕ) → Bool
 makes_folder deep local = deep && is_slashed local
 
-abbrev pub GetsNew : {R F : Type 0} → (asks : R → Command → Answer → R → Type 0) → (content : R → ℕ → List ℕ) → (finds : F → Bool → List ℕ → Kind → F → Type 0) → (writes : F → List ℕ → List ℕ → Result Unit LocalFault → F → Type 0) → (makes tries : F → List ℕ → Result Unit LocalFault → F → Type 0) → (clears : F → List ℕ → F → Type 0) → R → F → (is_folder : Bool) → (path : List (List ℕ)) → (local : List ℕ) → (deep : Bool) → Option ℕ → Visited → R → F → Type 0
+abbrev pub GetsNew : {R F : Type 0} → (asks : R → Command → Answer → R → Type 0) → (content : R → ℕ → Fetched) → (finds : F → Bool → List ℕ → Kind → F → Type 0) → (writes : F → List ℕ → List ℕ → Result Unit LocalFault → F → Type 0) → (makes tries : F → List ℕ → Result Unit LocalFault → F → Type 0) → (clears : F → List ℕ → F → Type 0) → R → F → (is_folder : Bool) → (path : List (List ℕ)) → (local : List ℕ) → (deep : Bool) → Option ℕ → Visited → R → F → Type 0
 GetsNew asks content finds writes makes tries clears old host true path local deep id v new host' = GetsDirectory asks finds makes clears old host path local v new host'
 GetsNew asks content finds writes makes tries clears old host false path local deep id v new host' = GetsFile asks content finds writes makes tries clears old host path local deep id v new host'
 
-abbrev pub GetsKind : {R F : Type 0} → (asks : R → Command → Answer → R → Type 0) → (content : R → ℕ → List ℕ) → (offers : R → List ℕ → R → Type 0) → (finds : F → Bool → List ℕ → Kind → F → Type 0) → (reads : F → List ℕ → Result (List ℕ) LocalFault → F → Type 0) → (writes : F → List ℕ → List ℕ → Result Unit LocalFault → F → Type 0) → (makes tries : F → List ℕ → Result Unit LocalFault → F → Type 0) → (clears : F → List ℕ → F → Type 0) → R → F → Kind → (path : List (List ℕ)) → (local : List ℕ) → (deep : Bool) → Option ℕ → Visited → R → F → Type 0
+abbrev pub GetsKind : {R F : Type 0} → (asks : R → Command → Answer → R → Type 0) → (content : R → ℕ → Fetched) → (offers : R → List ℕ → R → Type 0) → (finds : F → Bool → List ℕ → Kind → F → Type 0) → (reads : F → List ℕ → Result (List ℕ) LocalFault → F → Type 0) → (writes : F → List ℕ → List ℕ → Result Unit LocalFault → F → Type 0) → (makes tries : F → List ℕ → Result Unit LocalFault → F → Type 0) → (clears : F → List ℕ → F → Type 0) → R → F → Kind → (path : List (List ℕ)) → (local : List ℕ) → (deep : Bool) → Option ℕ → Visited → R → F → Type 0
 GetsKind asks content offers finds reads writes makes tries clears old host kinds.Folder path local deep id v new host' = GetsInto asks finds makes clears old host deep path local v new host'
 GetsKind asks content offers finds reads writes makes tries clears old host kinds.File path local deep id v new host' = GetsOver asks content offers finds reads writes makes tries clears old host path local deep id v new host'
 GetsKind asks content offers finds reads writes makes tries clears old host (kinds.Hidden fault) path local deep id v new host' = Ends old host v (faulty_as local fault) new host'
 GetsKind asks content offers finds reads writes makes tries clears old host k path local deep id v new host' = GetsNew asks content finds writes makes tries clears old host (makes_folder deep local) path local deep id v new host'
 
-pub record GetsFound {R F : Type 0} (asks : R → Command → Answer → R → Type 0) (content : R → ℕ → List ℕ) (offers : R → List ℕ → R → Type 0) (finds : F → Bool → List ℕ → Kind → F → Type 0) (reads : F → List ℕ → Result (List ℕ) LocalFault → F → Type 0) (writes : F → List ℕ → List ℕ → Result Unit LocalFault → F → Type 0) (makes tries : F → List ℕ → Result Unit LocalFault → F → Type 0) (clears : F → List ℕ → F → Type 0) (old : R) (host : F) (path : List (List ℕ)) (local : List ℕ) (deep : Bool) (id : Option ℕ) (v : Visited) (new : R) (host' : F) : Type 0 where
+pub record GetsFound {R F : Type 0} (asks : R → Command → Answer → R → Type 0) (content : R → ℕ → Fetched) (offers : R → List ℕ → R → Type 0) (finds : F → Bool → List ℕ → Kind → F → Type 0) (reads : F → List ℕ → Result (List ℕ) LocalFault → F → Type 0) (writes : F → List ℕ → List ℕ → Result Unit LocalFault → F → Type 0) (makes tries : F → List ℕ → Result Unit LocalFault → F → Type 0) (clears : F → List ℕ → F → Type 0) (old : R) (host : F) (path : List (List ℕ)) (local : List ℕ) (deep : Bool) (id : Option ℕ) (v : Visited) (new : R) (host' : F) : Type 0 where
   pub kind : Kind
   pub here : F
   pub found : finds host true local kind here
@@ -181,10 +182,10 @@ pub record GetsFound {R F : Type 0} (asks : R → Command → Answer → R → T
 abbrev pub is_root : (deep : Bool) → (path : List (List ℕ)) → Bool
 is_root deep path = deep && (length path == 0)
 
-abbrev pub GetsUnless : {R F : Type 0} → (asks : R → Command → Answer → R → Type 0) → (content : R → ℕ → List ℕ) → (offers : R → List ℕ → R → Type 0) → (finds : F → Bool → List ℕ → Kind → F → Type 0) → (reads : F → List ℕ → Result (List ℕ) LocalFault → F → Type 0) → (writes : F → List ℕ → List ℕ → Result Unit LocalFault → F → Type 0) → (makes tries : F → List ℕ → Result Unit LocalFault → F → Type 0) → (clears : F → List ℕ → F → Type 0) → R → F → (is_root : Bool) → (path : List (List ℕ)) → (local : List ℕ) → (deep : Bool) → Option ℕ → Visited → R → F → Type 0
+abbrev pub GetsUnless : {R F : Type 0} → (asks : R → Command → Answer → R → Type 0) → (content : R → ℕ → Fetched) → (offers : R → List ℕ → R → Type 0) → (finds : F → Bool → List ℕ → Kind → F → Type 0) → (reads : F → List ℕ → Result (List ℕ) LocalFault → F → Type 0) → (writes : F → List ℕ → List ℕ → Result Unit LocalFault → F → Type 0) → (makes tries : F → List ℕ → Result Unit LocalFault → F → Type 0) → (clears : F → List ℕ → F → Type 0) → R → F → (is_root : Bool) → (path : List (List ℕ)) → (local : List ℕ) → (deep : Bool) → Option ℕ → Visited → R → F → Type 0
 GetsUnless asks content offers finds reads writes makes tries clears old host true path local deep id v new host' = GetsDirectory asks finds makes clears old host path local v new host'
 GetsUnless asks content offers finds reads writes makes tries clears old host false path local deep id v new host' = GetsFound asks content offers finds reads writes makes tries clears old host path local deep id v new host'
 
 -- what has the path goes to the path of the host's
-abbrev pub GetsAt : {R F : Type 0} → (asks : R → Command → Answer → R → Type 0) → (content : R → ℕ → List ℕ) → (offers : R → List ℕ → R → Type 0) → (finds : F → Bool → List ℕ → Kind → F → Type 0) → (reads : F → List ℕ → Result (List ℕ) LocalFault → F → Type 0) → (writes : F → List ℕ → List ℕ → Result Unit LocalFault → F → Type 0) → (makes tries : F → List ℕ → Result Unit LocalFault → F → Type 0) → (clears : F → List ℕ → F → Type 0) → R → F → (path : List (List ℕ)) → (local : List ℕ) → (deep : Bool) → Option ℕ → Visited → R → F → Type 0
+abbrev pub GetsAt : {R F : Type 0} → (asks : R → Command → Answer → R → Type 0) → (content : R → ℕ → Fetched) → (offers : R → List ℕ → R → Type 0) → (finds : F → Bool → List ℕ → Kind → F → Type 0) → (reads : F → List ℕ → Result (List ℕ) LocalFault → F → Type 0) → (writes : F → List ℕ → List ℕ → Result Unit LocalFault → F → Type 0) → (makes tries : F → List ℕ → Result Unit LocalFault → F → Type 0) → (clears : F → List ℕ → F → Type 0) → R → F → (path : List (List ℕ)) → (local : List ℕ) → (deep : Bool) → Option ℕ → Visited → R → F → Type 0
 GetsAt asks content offers finds reads writes makes tries clears old host path local deep id v new host' = GetsUnless asks content offers finds reads writes makes tries clears old host (is_root deep path) path local deep id v new host'

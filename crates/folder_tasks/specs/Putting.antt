@@ -2,6 +2,7 @@
 use Rattle.std.specs.Prelude.{◌≡◌, ℕ, ◌==◌, ◌&&◌, ◌||◌, List, [], ◌∷◌, ◌++◌, length, Bool, true, false, not, Option, Some, None, is_some, Result, Ok, Err, codes}
 use Rattle.command_text.specs.declared.command.Command.{Command}
 use Rattle.shell_walks.specs.Asking.{command_on, AsksOn}
+use Rattle.shell_walks.specs.Fetched.{Fetched}
 use Rattle.shell_walks.specs.Removing.{RemovesAll}
 use Rattle.shell_walks.specs.Storing.{is_closed, is_compared, is_kept, PutsBytes}
 use Rattle.shell_walks.specs.Tasks.{put_known, put_tasks, removals}
@@ -57,17 +58,17 @@ PutsAfter asks old true local path s n a v new = (new ≡ old) × (v ≡ stored_
 PutsAfter asks old false local path s n a v new = PutsElse asks old (s.deletes && (s.inner && is_dir a)) local path s a v new
 
 -- bytes go to the path, or why not is said; but a directory may go for them
-pub record PutsRead {R : Type 0} (asks : R → Command → Answer → R → Type 0) (content : R → ℕ → List ℕ) (offers : R → List ℕ → R → Type 0) (old : R) (local : List ℕ) (path : List (List ℕ)) (s : Storing) (bytes : List ℕ) (v : Visited) (new : R) : Type 0 where
+pub record PutsRead {R : Type 0} (asks : R → Command → Answer → R → Type 0) (content : R → ℕ → Fetched) (offers : R → List ℕ → R → Type 0) (old : R) (local : List ℕ) (path : List (List ℕ)) (s : Storing) (bytes : List ℕ) (v : Visited) (new : R) : Type 0 where
   pub answer : Answer
   pub between : R
   pub puts : PutsBytes asks content offers old path s bytes answer between
   pub goes_on : PutsAfter asks between (is_kept s answer) local path s (length bytes) answer v new
 
-abbrev pub PutsIfRead : {R : Type 0} → (asks : R → Command → Answer → R → Type 0) → (content : R → ℕ → List ℕ) → (offers : R → List ℕ → R → Type 0) → R → (local : List ℕ) → (path : List (List ℕ)) → Storing → Result (List ℕ) LocalFault → Visited → R → Type 0
+abbrev pub PutsIfRead : {R : Type 0} → (asks : R → Command → Answer → R → Type 0) → (content : R → ℕ → Fetched) → (offers : R → List ℕ → R → Type 0) → R → (local : List ℕ) → (path : List (List ℕ)) → Storing → Result (List ℕ) LocalFault → Visited → R → Type 0
 PutsIfRead asks content offers old local path s (Ok bytes) v new = PutsRead asks content offers old local path s bytes v new
 PutsIfRead asks content offers old local path s (Err fault) v new = (new ≡ old) × (v ≡ faulty_as local fault)
 
-pub record PutsFile {R F : Type 0} (asks : R → Command → Answer → R → Type 0) (content : R → ℕ → List ℕ) (offers : R → List ℕ → R → Type 0) (reads : F → List ℕ → Result (List ℕ) LocalFault → F → Type 0) (old : R) (host : F) (local : List ℕ) (path : List (List ℕ)) (s : Storing) (v : Visited) (new : R) (host' : F) : Type 0 where
+pub record PutsFile {R F : Type 0} (asks : R → Command → Answer → R → Type 0) (content : R → ℕ → Fetched) (offers : R → List ℕ → R → Type 0) (reads : F → List ℕ → Result (List ℕ) LocalFault → F → Type 0) (old : R) (host : F) (local : List ℕ) (path : List (List ℕ)) (s : Storing) (v : Visited) (new : R) (host' : F) : Type 0 where
   pub bytes : Result (List ℕ) LocalFault
   pub read : reads host local bytes host'
   pub goes_on : PutsIfRead asks content offers old local path s bytes v new
@@ -174,7 +175,7 @@ abbrev pub PutsDeep : {R F : Type 0} → (asks : R → Command → Answer → R 
 PutsDeep asks lists old host true local path s v new host' = PutsFolder asks lists old host local path s v new host'
 PutsDeep asks lists old host false local path s v new host' = Stays old host local faults.NotDeep v new host'
 
-abbrev pub PutsKind : {R F : Type 0} → (asks : R → Command → Answer → R → Type 0) → (content : R → ℕ → List ℕ) → (offers : R → List ℕ → R → Type 0) → (reads : F → List ℕ → Result (List ℕ) LocalFault → F → Type 0) → (lists : F → List ℕ → Result (List (List ℕ)) LocalFault → F → Type 0) → R → F → Kind → (local : List ℕ) → (path : List (List ℕ)) → Storing → Visited → R → F → Type 0
+abbrev pub PutsKind : {R F : Type 0} → (asks : R → Command → Answer → R → Type 0) → (content : R → ℕ → Fetched) → (offers : R → List ℕ → R → Type 0) → (reads : F → List ℕ → Result (List ℕ) LocalFault → F → Type 0) → (lists : F → List ℕ → Result (List (List ℕ)) LocalFault → F → Type 0) → R → F → Kind → (local : List ℕ) → (path : List (List ℕ)) → Storing → Visited → R → F → Type 0
 PutsKind asks content offers reads lists old host kinds.File local path s v new host' = PutsFile asks content offers reads old host local path s v new host'
 PutsKind asks content offers reads lists old host kinds.Folder local path s v new host' = PutsDeep asks lists old host s.deep local path s v new host'
 PutsKind asks content offers reads lists old host kinds.Missing local path s v new host' = Stays old host local faults.Missing v new host'
@@ -183,7 +184,7 @@ PutsKind asks content offers reads lists old host kinds.Other local path s v new
 PutsKind asks content offers reads lists old host (kinds.Hidden fault) local path s v new host' = Stays old host local fault v new host'
 
 -- a link that is met in a folder isn't followed
-pub record Puts {R F : Type 0} (asks : R → Command → Answer → R → Type 0) (content : R → ℕ → List ℕ) (offers : R → List ℕ → R → Type 0) (finds : F → Bool → List ℕ → Kind → F → Type 0) (reads : F → List ℕ → Result (List ℕ) LocalFault → F → Type 0) (lists : F → List ℕ → Result (List (List ℕ)) LocalFault → F → Type 0) (old : R) (host : F) (local : List ℕ) (path : List (List ℕ)) (s : Storing) (v : Visited) (new : R) (host' : F) : Type 0 where
+pub record Puts {R F : Type 0} (asks : R → Command → Answer → R → Type 0) (content : R → ℕ → Fetched) (offers : R → List ℕ → R → Type 0) (finds : F → Bool → List ℕ → Kind → F → Type 0) (reads : F → List ℕ → Result (List ℕ) LocalFault → F → Type 0) (lists : F → List ℕ → Result (List (List ℕ)) LocalFault → F → Type 0) (old : R) (host : F) (local : List ℕ) (path : List (List ℕ)) (s : Storing) (v : Visited) (new : R) (host' : F) : Type 0 where
   pub kind : Kind
   pub between : F
   pub found : finds host (not s.inner) local kind between

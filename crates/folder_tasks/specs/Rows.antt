@@ -43,5 +43,5 @@ pub no_slash_here : makes_folder true (codes "./nw") ≡ false
 no_slash_here = refl
 
 -- a file that nobody stored in yet is said, by its path at the server, and not counted
-pub nothing_is_stored_yet : refused_as (codes "d" ∷ codes "a" ∷ []) why.Unstored ≡ record { more = []; note = codes "/d/a: nothing is stored in it yet (a put goes on, or was stopped)\n"; news = []; files = 0; bytes = 0; is_off = false; left = 0 }
+pub nothing_is_stored_yet : refused_as (codes "d" ∷ codes "a" ∷ []) why.Unstored ≡ record { more = []; note = codes "/d/a: nothing is stored in it yet (a put goes on, or is to be done again)\n"; news = []; files = 0; bytes = 0; is_off = false; left = 0 }
 nothing_is_stored_yet = refl

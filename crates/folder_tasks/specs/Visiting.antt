@@ -5,6 +5,7 @@ use Rattle.shell_words.specs.Local.{below, is_component}
 use Rattle.shell_words.specs.Temporary.{is_carried, is_temporary}
 use Rattle.shell_words.specs.Quoting.{quoted}
 use Rattle.shell_walks.specs.Asking.{command_on, AsksOn}
+use Rattle.shell_walks.specs.Fetched.{Fetched}
 use Rattle.shell_walks.specs.Fetching.{Gets}
 use Rattle.shell_walks.specs.Removing.{RemovesAll}
 use Rattle.shell_walks.specs.Storing.{CountsRead, PutsBytes}
@@ -102,7 +103,7 @@ EndsGet path local (got.Fault fault) v = v ≡ faulty_as local fault
 -- ---- what is asked for
 
 -- nothing but the putting of these bytes
-abbrev pub PutsAlone : {R : Type 0} → (asks : R → Command → Answer → R → Type 0) → (content : R → ℕ → List ℕ) → (offers : R → List ℕ → R → Type 0) → R → List (List ℕ) → Storing → List ℕ → R → Type 0
+abbrev pub PutsAlone : {R : Type 0} → (asks : R → Command → Answer → R → Type 0) → (content : R → ℕ → Fetched) → (offers : R → List ℕ → R → Type 0) → R → List (List ℕ) → Storing → List ℕ → R → Type 0
 PutsAlone asks content offers old path s bytes new = (a : Answer) × PutsBytes asks content offers old path s bytes a new
 
 -- what has the path goes, and what came of it is told as it is
@@ -113,15 +114,15 @@ pub record Removed {R : Type 0} (asks : R → Command → Answer → R → Type 
 
 -- ---- which files are counted
 
-pub data CountsGot {R F : Type 0} (asks : R → Command → Answer → R → Type 0) (content : R → ℕ → List ℕ) (writes : F → List ℕ → List ℕ → Result Unit LocalFault → F → Type 0) (tries : F → List ℕ → Result Unit LocalFault → F → Type 0) (id : Option ℕ) (path : List (List ℕ)) (local : List ℕ) (v : Visited) : Type 0 where
+pub data CountsGot {R F : Type 0} (asks : R → Command → Answer → R → Type 0) (content : R → ℕ → Fetched) (writes : F → List ℕ → List ℕ → Result Unit LocalFault → F → Type 0) (tries : F → List ℕ → Result Unit LocalFault → F → Type 0) (id : Option ℕ) (path : List (List ℕ)) (local : List ℕ) (v : Visited) : Type 0 where
   fetched : (s t : R) (h k : F) (g : Got) → Gets asks content writes tries s h id path local g t k → EndsGet path local g v → CountsGot asks content writes tries id path local v
   not_fetched : v.files ≡ 0 → CountsGot asks content writes tries id path local v
 
-pub data CountsPut {R F : Type 0} (asks : R → Command → Answer → R → Type 0) (content : R → ℕ → List ℕ) (offers : R → List ℕ → R → Type 0) (reads : F → List ℕ → Result (List ℕ) LocalFault → F → Type 0) (old : R) (local : List ℕ) (path : List (List ℕ)) (s : Storing) (files : ℕ) (new : R) : Type 0 where
+pub data CountsPut {R F : Type 0} (asks : R → Command → Answer → R → Type 0) (content : R → ℕ → Fetched) (offers : R → List ℕ → R → Type 0) (reads : F → List ℕ → Result (List ℕ) LocalFault → F → Type 0) (old : R) (local : List ℕ) (path : List (List ℕ)) (s : Storing) (files : ℕ) (new : R) : Type 0 where
   read : (h k : F) → CountsRead asks content offers reads old h local path s files new k → CountsPut asks content offers reads old local path s files new
   not_read : files ≡ 0 → CountsPut asks content offers reads old local path s files new
 
-abbrev pub CountsFor : {R F : Type 0} → (asks : R → Command → Answer → R → Type 0) → (content : R → ℕ → List ℕ) → (offers : R → List ℕ → R → Type 0) → (reads : F → List ℕ → Result (List ℕ) LocalFault → F → Type 0) → (writes : F → List ℕ → List ℕ → Result Unit LocalFault → F → Type 0) → (tries : F → List ℕ → Result Unit LocalFault → F → Type 0) → R → Task → Visited → R → Type 0
+abbrev pub CountsFor : {R F : Type 0} → (asks : R → Command → Answer → R → Type 0) → (content : R → ℕ → Fetched) → (offers : R → List ℕ → R → Type 0) → (reads : F → List ℕ → Result (List ℕ) LocalFault → F → Type 0) → (writes : F → List ℕ → List ℕ → Result Unit LocalFault → F → Type 0) → (tries : F → List ℕ → Result Unit LocalFault → F → Type 0) → R → Task → Visited → R → Type 0
 CountsFor asks content offers reads writes tries old (task.Put local path s) v new = CountsPut asks content offers reads old local path s v.files new
 CountsFor asks content offers reads writes tries old (task.Get path local deep id) v new = CountsGot asks content writes tries id path local v
 CountsFor asks content offers reads writes tries old (task.Remove path) v new = v.files ≡ 0
@@ -158,12 +159,12 @@ pub data Spares {R : Type 0} (asks : R → Command → Answer → R → Type 0) 
   asked : (d : Deed) (a : Answer) (mid new : R) → Spares asks path old mid → is_removal d ≡ false → AsksOn asks mid (command_on d path) a new → Spares asks path old new
 
 -- the bytes of a file go to the path, or it is asked about for a folder
-pub data SparesPut {R : Type 0} (asks : R → Command → Answer → R → Type 0) (content : R → ℕ → List ℕ) (offers : R → List ℕ → R → Type 0) (old : R) (path : List (List ℕ)) (s : Storing) (new : R) : Type 0 where
+pub data SparesPut {R : Type 0} (asks : R → Command → Answer → R → Type 0) (content : R → ℕ → Fetched) (offers : R → List ℕ → R → Type 0) (old : R) (path : List (List ℕ)) (s : Storing) (new : R) : Type 0 where
   stores : (bytes : List ℕ) → PutsAlone asks content offers old path s bytes new → SparesPut asks content offers old path s new
   looks : Spares asks path old new → SparesPut asks content offers old path s new
 
 -- a storing without `deletes` removes nothing but a file that it made itself and couldn't store (`StoresMade`)
-abbrev pub SparesFor : {R : Type 0} → (asks : R → Command → Answer → R → Type 0) → (content : R → ℕ → List ℕ) → (offers : R → List ℕ → R → Type 0) → Task → R → R → Type 0
+abbrev pub SparesFor : {R : Type 0} → (asks : R → Command → Answer → R → Type 0) → (content : R → ℕ → Fetched) → (offers : R → List ℕ → R → Type 0) → Task → R → R → Type 0
 SparesFor asks content offers (task.Put local path s) old new = s.deletes ≡ false → SparesPut asks content offers old path s new
 SparesFor asks content offers (task.Get path local deep id) old new = Unit {0}
 SparesFor asks content offers (task.Remove path) old new = Unit {0}

@@ -5,6 +5,7 @@ use Rattle.shell_words.specs.Quoting.{quoted}
 use Rattle.shell_words.specs.declared.command.Verb.{Verb}
 use Rattle.shell_words.specs.declared.command.Verb.TheVariants as verb
 use Rattle.shell_walks.specs.Asking.{command_on, rename_of, AsksOn}
+use Rattle.shell_walks.specs.Fetched.{Fetched}
 use Rattle.shell_walks.specs.Fetching.{Cats}
 use Rattle.shell_walks.specs.Removing.{RemovesAll as GoesWith}
 use Rattle.shell_walks.specs.Telling.{done_told, fine, is_off, left_text, long_line, names_told, note_line, notes, path_text, refused_told, removed_told, stat_told, why_of, why_text}
@@ -260,7 +261,7 @@ pub record Moves {R : Type 0} (asks : R → Command → Answer → R → Type 0)
 
 -- ---- a command on one path
 
-abbrev pub OnPath : {R : Type 0} → (asks : R → Command → Answer → R → Type 0) → (content : R → ℕ → List ℕ) → R → Verb → (has_option : Bool) → List (List ℕ) → Told → R → Type 0
+abbrev pub OnPath : {R : Type 0} → (asks : R → Command → Answer → R → Type 0) → (content : R → ℕ → Fetched) → R → Verb → (has_option : Bool) → List (List ℕ) → Told → R → Type 0
 OnPath asks content old verb.Ls long path told new = Lists asks old long path told new
 OnPath asks content old verb.Mkdir true path told new = MakesAll asks old path told new
 OnPath asks content old verb.Mkdir false path told new = Does asks old deed.MakeDir path told new

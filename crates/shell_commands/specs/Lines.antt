@@ -8,6 +8,7 @@ use Rattle.shell_words.specs.declared.command.Verb.{Verb}
 use Rattle.shell_words.specs.declared.command.Verb.TheVariants as verb
 use Rattle.shell_words.specs.declared.mistake.Mistake.{Mistake}
 use Rattle.shell_walks.specs.Asking.{command_on, AsksOn}
+use Rattle.shell_walks.specs.Fetched.{Fetched}
 use Rattle.shell_walks.specs.Telling.{fault_text, fine, is_fine, mistake_text, note_line, notes, path_text}
 use Rattle.shell_walks.specs.declared.asking.Deed.TheVariants as deed
 use Rattle.shell_walks.specs.declared.folder.Kind.{Kind}
@@ -115,7 +116,7 @@ stood_in path = notes (note_line (path_text path) (codes "it stays: this shell s
 abbrev pub dotted_out : (path : List (List ℕ)) → Told
 dotted_out path = notes (note_line (path_text path) (codes "it stays: name it without . or .. at the end"))
 
-abbrev pub RemovesIf : {R : Type 0} → (asks : R → Command → Answer → R → Type 0) → (content : R → ℕ → List ℕ) → R → (over dotted has_option : Bool) → List (List ℕ) → Told → R → Type 0
+abbrev pub RemovesIf : {R : Type 0} → (asks : R → Command → Answer → R → Type 0) → (content : R → ℕ → Fetched) → R → (over dotted has_option : Bool) → List (List ℕ) → Told → R → Type 0
 RemovesIf asks content old true dotted option path told new = (new ≡ old) × (told ≡ stood_in path)
 RemovesIf asks content old false true option path told new = (new ≡ old) × (told ≡ dotted_out path)
 RemovesIf asks content old false false option path told new = OnPath asks content old verb.Rm option path told new
@@ -245,14 +246,14 @@ pub record RunsSync {R F : Type 0} (asks : R → Command → Answer → R → Ty
 abbrev pub Tells : Went → (Told → Type 0) → Type 0
 Tells w P = (told : Told) × (w ≡ went.Told told) × P told
 
-abbrev pub DoesPath : {R F : Type 0} → (asks : R → Command → Answer → R → Type 0) → (content : R → ℕ → List ℕ) → (finds : F → Bool → List ℕ → Kind → F → Type 0) → (clears : F → List ℕ → F → Type 0) → Verb → Line → (folder : List ℕ) → (dir path : List (List ℕ)) → R → F → Went → R → F → (dir' : List (List ℕ)) → Type 0
+abbrev pub DoesPath : {R F : Type 0} → (asks : R → Command → Answer → R → Type 0) → (content : R → ℕ → Fetched) → (finds : F → Bool → List ℕ → Kind → F → Type 0) → (clears : F → List ℕ → F → Type 0) → Verb → Line → (folder : List ℕ) → (dir path : List (List ℕ)) → R → F → Went → R → F → (dir' : List (List ℕ)) → Type 0
 DoesPath asks content finds clears verb.Cd line folder dir path old host w new host' dir' = (host' ≡ host) × Tells w (λ told. Goes asks old dir path told new dir')
 DoesPath asks content finds clears verb.Get line folder dir path old host w new host' dir' = (new ≡ old) × (dir' ≡ dir) × GetsIf finds clears host (is_name_here (name_got path)) folder line path w host'
 DoesPath asks content finds clears verb.Mv line folder dir path old host w new host' dir' = (host' ≡ host) × (dir' ≡ dir) × Tells w (λ told. MovesTo asks old dir path (operand_of line 1) told new)
 DoesPath asks content finds clears verb.Rm line folder dir path old host w new host' dir' = (host' ≡ host) × (dir' ≡ dir) × Tells w (λ told. RemovesIf asks content old (line.has_option && is_over path dir) (line.has_option && is_dotted (operand_of line 0)) line.has_option path told new)
 DoesPath asks content finds clears v line folder dir path old host w new host' dir' = (host' ≡ host) × (dir' ≡ dir) × Tells w (λ told. OnPath asks content old v line.has_option path told new)
 
-abbrev pub DoesNamed : {R F : Type 0} → (asks : R → Command → Answer → R → Type 0) → (content : R → ℕ → List ℕ) → (finds : F → Bool → List ℕ → Kind → F → Type 0) → (clears : F → List ℕ → F → Type 0) → Line → (folder : List ℕ) → (dir : List (List ℕ)) → Named → R → F → Went → R → F → (dir' : List (List ℕ)) → Type 0
+abbrev pub DoesNamed : {R F : Type 0} → (asks : R → Command → Answer → R → Type 0) → (content : R → ℕ → Fetched) → (finds : F → Bool → List ℕ → Kind → F → Type 0) → (clears : F → List ℕ → F → Type 0) → Line → (folder : List ℕ) → (dir : List (List ℕ)) → Named → R → F → Went → R → F → (dir' : List (List ℕ)) → Type 0
 DoesNamed asks content finds clears line folder dir (named.Path path) old host w new host' dir' = DoesPath asks content finds clears line.verb line folder dir path old host w new host' dir'
 DoesNamed asks content finds clears line folder dir (named.Mistaken told) old host w new host' dir' = (w ≡ went.Told told) × (new ≡ old) × (host' ≡ host) × (dir' ≡ dir)
 
@@ -267,13 +268,13 @@ says_of verb.Get word = is_slashed word
 says_of v word = says_dir word
 
 -- a command whose first word is a path of the server
-pub record RunsNamed {R F : Type 0} (asks : R → Command → Answer → R → Type 0) (content : R → ℕ → List ℕ) (finds : F → Bool → List ℕ → Kind → F → Type 0) (clears : F → List ℕ → F → Type 0) (line : Line) (folder : List ℕ) (dir : List (List ℕ)) (old : R) (host : F) (w : Went) (new : R) (host' : F) (dir' : List (List ℕ)) : Type 0 where
+pub record RunsNamed {R F : Type 0} (asks : R → Command → Answer → R → Type 0) (content : R → ℕ → Fetched) (finds : F → Bool → List ℕ → Kind → F → Type 0) (clears : F → List ℕ → F → Type 0) (line : Line) (folder : List ℕ) (dir : List (List ℕ)) (old : R) (host : F) (w : Went) (new : R) (host' : F) (dir' : List (List ℕ)) : Type 0 where
   pub at : Named
   pub between : R
   pub names : NamesAt asks old dir (says_of line.verb (operand_of line 0)) (not (is_mkdir line.verb)) (operand_of line 0) at between
   pub goes_on : DoesNamed asks content finds clears line folder dir at between host w new host' dir'
 
-abbrev pub RunsAs : {R F : Type 0} → (asks : R → Command → Answer → R → Type 0) → (content : R → ℕ → List ℕ) → (finds : F → Bool → List ℕ → Kind → F → Type 0) → (clears : F → List ℕ → F → Type 0) → Verb → Line → (here : Option (List ℕ)) → (folder : List ℕ) → (dir : List (List ℕ)) → R → F → Went → R → F → (folder' : List ℕ) → (dir' : List (List ℕ)) → Type 0
+abbrev pub RunsAs : {R F : Type 0} → (asks : R → Command → Answer → R → Type 0) → (content : R → ℕ → Fetched) → (finds : F → Bool → List ℕ → Kind → F → Type 0) → (clears : F → List ℕ → F → Type 0) → Verb → Line → (here : Option (List ℕ)) → (folder : List ℕ) → (dir : List (List ℕ)) → R → F → Went → R → F → (folder' : List ℕ) → (dir' : List (List ℕ)) → Type 0
 RunsAs asks content finds clears verb.Pwd line here folder dir old host w new host' folder' dir' = (w ≡ went.Told (fine (path_text dir ++ codes "\n"))) × (new ≡ old) × (host' ≡ host) × (dir' ≡ dir)
 RunsAs asks content finds clears verb.Lcd line here folder dir old host w new host' folder' dir' = (new ≡ old) × (dir' ≡ dir) × Tells w (λ told. LcdIf finds host (has_word (operand_of line 0)) here (operand_of line 0) folder told host' folder')
 RunsAs asks content finds clears verb.Put line here folder dir old host w new host' folder' dir' = (dir' ≡ dir) × RunsPut asks finds old host folder dir line w new host'
@@ -282,7 +283,7 @@ RunsAs asks content finds clears verb.Help line here folder dir old host w new h
 RunsAs asks content finds clears verb.Bye line here folder dir old host w new host' folder' dir' = (w ≡ went.Bye) × (new ≡ old) × (host' ≡ host) × (dir' ≡ dir)
 RunsAs asks content finds clears v line here folder dir old host w new host' folder' dir' = RunsNamed asks content finds clears line folder dir old host w new host' dir'
 
-abbrev pub Runs : {R F : Type 0} → (asks : R → Command → Answer → R → Type 0) → (content : R → ℕ → List ℕ) → (finds : F → Bool → List ℕ → Kind → F → Type 0) → (clears : F → List ℕ → F → Type 0) → Line → Shell → R → F → Went → R → F → Shell → Type 0
+abbrev pub Runs : {R F : Type 0} → (asks : R → Command → Answer → R → Type 0) → (content : R → ℕ → Fetched) → (finds : F → Bool → List ℕ → Kind → F → Type 0) → (clears : F → List ℕ → F → Type 0) → Line → Shell → R → F → Went → R → F → Shell → Type 0
 Runs asks content finds clears line shell old host w new host' shell' = RunsAs asks content finds clears line.verb line shell.here shell.folder shell.dir old host w new host' shell'.folder shell'.dir
 
 -- the folder here changes by lcd alone

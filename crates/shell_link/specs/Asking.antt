@@ -1,5 +1,5 @@
 -- What a command that a shell asks for comes to, by the client's own steps.
-use Rattle.std.specs.Prelude.{◌≡◌, ◌⊎◌, ◌&&◌, ◌≤◌, ℕ, List, Option, Some, None, Result, Bool, true, false}
+use Rattle.std.specs.Prelude.{◌≡◌, ◌⊎◌, ◌&&◌, ◌≤◌, ℕ, List, Option, Some, None, option_map, unwrap_or, Result, Bool, true, false}
 use Rattle.command_text.specs.declared.command.Command.{Command}
 use Rattle.command_text.specs.declared.command.Command.TheVariants as command
 use Rattle.command_text.specs.declared.path.PathCommand.{PathCommand}
@@ -13,7 +13,7 @@ use Rattle.client_state.specs.Ending.{cut, joined}
 use Rattle.client_state.specs.Bounding.{kept_within}
 use Rattle.client_state.specs.Hints.{Learns, Offers, Warms}
 use Rattle.client_state.specs.Noting.{noted}
-use Rattle.client_state.specs.State.{State}
+use Rattle.client_state.specs.State.{State, local_at, local_bytes}
 use Rattle.client_state.specs.declared.noting.Granted.{Granted}
 use Rattle.client_state.specs.declared.step.BadPeer.{BadPeer}
 use Rattle.client_state.specs.declared.step.BadPeer.TheVariants as bad
@@ -21,11 +21,13 @@ use Rattle.client_state.specs.declared.step.ClientStep.{ClientStep}
 use Rattle.client_state.specs.declared.step.Ended.{Ended}
 use Rattle.client_state.specs.declared.step.Outcome.{Outcome}
 use Rattle.client_state.specs.declared.step.Outcome.TheVariants as outcome
+use Rattle.client_state.specs.declared.task.Local.{Local}
 use Rattle.cache_file.specs.Items.{items}
 use Rattle.limits.specs.declared.TheConstants.{FILE_MOST}
 use Rattle.lbfs_client.specs.Client.{Takes, Hears}
 use Rattle.shell_link.specs.Hearing.{nothing_heard, Heeds, listed_as}
 use Rattle.shell_link.specs.declared.hearing.Heard.{Heard}
+use Rattle.shell_walks.specs.Fetched.{Fetched}
 use Rattle.shell_walks.specs.declared.remote.Answer.{Answer}
 use Rattle.shell_walks.specs.declared.remote.Answer.TheVariants as answer
 use Rattle.shell_walks.specs.declared.remote.Why.{Why}
@@ -234,3 +236,12 @@ NotesNothing drift = (s : State) (sent file : ℕ) (g : Granted) → s.drift ≡
 -- a farewell goes out, or the connection is lost
 abbrev pub Leaves : State → State → Type 0
 Leaves old new = (new ≡ old) ⊎ (new ≡ (cut old).0)
+
+-- ---- what a client has of an open file
+
+abbrev pub local_version : List (ℕ × Local) → ℕ → ℕ
+local_version opened file = unwrap_or (option_map (λ l. l.version) (local_at opened file)) 0
+
+-- no bytes, and no version, where it isn't open
+abbrev pub fetched_of : List (ℕ × Local) → ℕ → Fetched
+fetched_of opened file = record { bytes = local_bytes opened file; version = local_version opened file }

@@ -4,12 +4,12 @@ ghost use Rattle.std.specs.Prelude.{◌≡◌, ◌≤◌, Bool, true, false, Non
 ghost use Rattle.limits.specs.declared.TheConstants.{FILE_MOST};
 ghost use Rattle.cache_file.specs.Items.{items, spelled};
 ghost use Rattle.cache_file.specs.Saved.{saved};
-ghost use Rattle.client_state.specs.State.{State, start_with, local_bytes};
+ghost use Rattle.client_state.specs.State.{State, start_with};
 ghost use Rattle.client_state.specs.Ending.{cut, joined};
 ghost use Rattle.wire.specs.declared.message.TheConstants.{LBFS_SPOKEN};
 ghost use Rattle.command_text.specs.declared.command.Command.{Command};
 ghost use Rattle.shell_link.specs.Asking.{answer_of, makes, told_of, kept, Sends, Runs, Once, Tries, AsksOn, AsksFirst, Asks, AsksHinted, unlinked};
-ghost use Rattle.shell_link.specs.Asking.{is_local, MayLearn, MayOffer, MayWarm, rereads, NotesNothing, Leaves};
+ghost use Rattle.shell_link.specs.Asking.{fetched_of, is_local, MayLearn, MayOffer, MayWarm, rereads, NotesNothing, Leaves};
 ghost use Rattle.shell_link.specs.Hearing.{nothing_heard};
 ghost use Rattle.shell_link.specs.declared.session.TheConstants.{DRIFT};
 
@@ -451,7 +451,7 @@ where
 
     ghost farewells = { λ s t. Leaves s.client t.client × (t.is_fresh ≡ s.is_fresh) };
 
-    ghost content = { λ s file. local_bytes s.client.opened file };
+    ghost content = { λ s file. fetched_of s.client.opened file };
 
     fn ask(&mut self, alloc: Global, command: Command) -> Answer {
         self.is_used = true;
@@ -467,6 +467,13 @@ where
         match self.client.local(file) {
             Some(bytes) => bytes,
             None => &[],
+        }
+    }
+
+    fn version(&self, file: u64) -> u64 {
+        match self.client.version(file) {
+            Some(version) => version,
+            None => 0,
         }
     }
 

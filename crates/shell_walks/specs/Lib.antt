@@ -1,5 +1,6 @@
 pub mod Asking
 pub mod Caching
+pub mod Fetched
 pub mod Fetching
 pub mod Removing
 pub mod Rows

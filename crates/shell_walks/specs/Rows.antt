@@ -1,6 +1,6 @@
--- Worked rows of what becomes of a file that was made, and then wasn't stored: by whoever made it, and by a fetch.
-use Rattle.std.specs.Prelude.{◌≡◌, ℕ, true, false, Some, None, refl}
-use Rattle.shell_walks.specs.Fetching.{withheld}
+-- Worked rows of a file that was made, and then wasn't stored: what becomes of it, and what a fetch and a sync make of it.
+use Rattle.std.specs.Prelude.{◌≡◌, ℕ, List, [], ◌∷◌, true, false, refl}
+use Rattle.shell_walks.specs.Fetched.{Fetched, is_never_stored, is_stored_as}
 use Rattle.shell_walks.specs.Storing.{is_unstored, taken_as}
 use Rattle.shell_walks.specs.declared.remote.Answer.{Answer}
 use Rattle.shell_walks.specs.declared.remote.Answer.TheVariants as answer
@@ -36,30 +36,30 @@ gone_again = refl
 pub may_stay : taken_as (why.Refused 5) (answer.Failed why.Lost) ≡ answer.Left (why.Refused 5)
 may_stay = refl
 
--- ---- a fetch of a file that has no bytes
+-- ---- an open file that has no bytes, or some
 
-pub it_is_put_just_now : withheld 7 (file_seen 7 1 0) ≡ Some why.Unstored
-it_is_put_just_now = refl
+abbrev open_file : (bytes : List ℕ) → (version : ℕ) → Fetched
+open_file bytes version = record { bytes = bytes; version = version }
 
-pub it_was_stored_empty : withheld 7 (file_seen 7 2 0) ≡ None
+-- it is put just now, or a put of it was stopped
+pub it_is_never_stored : is_never_stored (open_file [] 1) ≡ true
+it_is_never_stored = refl
+
+pub it_was_stored_empty : is_never_stored (open_file [] 2) ≡ false
 it_was_stored_empty = refl
 
--- it has bytes by now, or another has its path: whether somebody had stored in it isn't known
-pub it_has_bytes_by_now : withheld 7 (file_seen 7 2 3) ≡ Some why.Changed
-it_has_bytes_by_now = refl
+pub it_has_bytes : is_never_stored (open_file (5 ∷ []) 1) ≡ false
+it_has_bytes = refl
 
-pub its_path_is_anothers : withheld 7 (file_seen 8 2 0) ≡ Some why.Changed
-its_path_is_anothers = refl
+-- so a sync of an empty file stores that, where it was made alone
+pub what_was_made_alone_is_stored : is_stored_as (open_file [] 1) [] ≡ false
+what_was_made_alone_is_stored = refl
 
-pub its_path_is_a_directorys : withheld 7 (answer.Seen (record { id = 8; is_dir = true; version = 1; len = 0 })) ≡ Some why.Changed
-its_path_is_a_directorys = refl
+pub what_is_empty_is_the_same : is_stored_as (open_file [] 2) [] ≡ true
+what_is_empty_is_the_same = refl
 
--- a look that fails tells nothing
-pub its_look_is_cut : withheld 7 (answer.Failed why.Cut) ≡ Some why.Cut
-its_look_is_cut = refl
+pub what_has_the_bytes_is_the_same : is_stored_as (open_file (5 ∷ []) 2) (5 ∷ []) ≡ true
+what_has_the_bytes_is_the_same = refl
 
-pub nothing_has_its_path : withheld 7 (answer.Failed (why.Refused 2)) ≡ Some (why.Refused 2)
-nothing_has_its_path = refl
-
-pub its_look_tells_something_else : withheld 7 answer.Done ≡ Some why.Order
-its_look_tells_something_else = refl
+pub another_byte_is_stored : is_stored_as (open_file (5 ∷ []) 2) (6 ∷ []) ≡ false
+another_byte_is_stored = refl

@@ -1,10 +1,11 @@
 -- How bytes become the content of a file, over what a client does at any command (`asks`).
-use Rattle.std.specs.Prelude.{◌≡◌, ◌⊎◌, ℕ, ◌==◌, ◌&&◌, ◌||◌, List, [], ◌∷◌, Bool, true, false, not, Option, Some, None, Result, Ok, bytes_eq}
+use Rattle.std.specs.Prelude.{◌≡◌, ◌⊎◌, ℕ, ◌==◌, ◌&&◌, ◌||◌, List, [], ◌∷◌, Bool, true, false, not, Option, Some, None, Result, Ok}
 use Rattle.command_text.specs.declared.command.Command.{Command}
 use Rattle.command_text.specs.declared.command.Command.TheVariants as command
 use Rattle.command_text.specs.declared.content.Part.{Part}
 use Rattle.command_text.specs.declared.content.Part.TheVariants as part
 use Rattle.shell_walks.specs.Asking.{command_on, AsksOn, Finds}
+use Rattle.shell_walks.specs.Fetched.{Fetched, is_stored_as}
 use Rattle.shell_walks.specs.Telling.{why_of}
 use Rattle.shell_walks.specs.declared.asking.Deed.TheVariants as deed
 use Rattle.shell_walks.specs.declared.folder.LocalFault.{LocalFault}
@@ -197,19 +198,19 @@ pub record Makes {R : Type 0} (asks : R → Command → Answer → R → Type 0)
   pub makes : AsksOn asks old (command_on deed.Make path) made between
   pub goes_on : MakesIf asks between (made_file made) path bytes made a new
 
--- ---- what has these bytes already is left
+-- ---- what was stored with these bytes already is left
 
 abbrev pub StoresUnless : {R : Type 0} → (asks : R → Command → Answer → R → Type 0) → R → ℕ → (is_same : Bool) → List ℕ → Answer → R → Type 0
 StoresUnless asks old file true bytes a new = (b : Answer) × asks old (command.Abandon file) b new × (a ≡ left_as b)
 StoresUnless asks old file false bytes a new = Stores asks old file bytes a new
 
-abbrev pub StoresChanged : {R : Type 0} → (asks : R → Command → Answer → R → Type 0) → (content : R → ℕ → List ℕ) → R → ℕ → List ℕ → Answer → R → Type 0
-StoresChanged asks content old file bytes a new = StoresUnless asks old file (bytes_eq (content old file) bytes) bytes a new
+abbrev pub StoresChanged : {R : Type 0} → (asks : R → Command → Answer → R → Type 0) → (content : R → ℕ → Fetched) → R → ℕ → List ℕ → Answer → R → Type 0
+StoresChanged asks content old file bytes a new = StoresUnless asks old file (is_stored_as (content old file) bytes) bytes a new
 
 -- ---- a file that may be there
 
 -- what an open file gets: these bytes, or only where it hasn't them
-abbrev pub PutsOpen : {R : Type 0} → (asks : R → Command → Answer → R → Type 0) → (content : R → ℕ → List ℕ) → R → ℕ → (changed_only : Bool) → List ℕ → Answer → R → Type 0
+abbrev pub PutsOpen : {R : Type 0} → (asks : R → Command → Answer → R → Type 0) → (content : R → ℕ → Fetched) → R → ℕ → (changed_only : Bool) → List ℕ → Answer → R → Type 0
 PutsOpen asks content old file true bytes a new = StoresChanged asks content old file bytes a new
 PutsOpen asks content old file false bytes a new = Stores asks old file bytes a new
 
@@ -217,7 +218,7 @@ abbrev pub MakesUnless : {R : Type 0} → (asks : R → Command → Answer → R
 MakesUnless asks old true path bytes opened a new = Makes asks old path bytes a new
 MakesUnless asks old false path bytes opened a new = (new ≡ old) × (a ≡ failed_as opened)
 
-abbrev pub PutsIf : {R : Type 0} → (asks : R → Command → Answer → R → Type 0) → (content : R → ℕ → List ℕ) → R → Option ℕ → List (List ℕ) → (changed_only : Bool) → List ℕ → (opened a : Answer) → R → Type 0
+abbrev pub PutsIf : {R : Type 0} → (asks : R → Command → Answer → R → Type 0) → (content : R → ℕ → Fetched) → R → Option ℕ → List (List ℕ) → (changed_only : Bool) → List ℕ → (opened a : Answer) → R → Type 0
 PutsIf asks content old (Some file) path changed bytes opened a new = PutsOpen asks content old file changed bytes a new
 PutsIf asks content old None path changed bytes opened a new = MakesUnless asks old (is_missing opened) path bytes opened a new
 
@@ -227,7 +228,7 @@ Opens asks old id path true a new = Finds asks old id path a new
 Opens asks old id path false a new = Renews asks old path a new
 
 -- a file is opened, and gets these bytes; where there is none it is made first
-pub record Puts {R : Type 0} (asks : R → Command → Answer → R → Type 0) (content : R → ℕ → List ℕ) (old : R) (id : Option ℕ) (path : List (List ℕ)) (changed_only : Bool) (bytes : List ℕ) (a : Answer) (new : R) : Type 0 where
+pub record Puts {R : Type 0} (asks : R → Command → Answer → R → Type 0) (content : R → ℕ → Fetched) (old : R) (id : Option ℕ) (path : List (List ℕ)) (changed_only : Bool) (bytes : List ℕ) (a : Answer) (new : R) : Type 0 where
   pub opened : Answer
   pub between : R
   pub opens : Opens asks old id path changed_only opened between
@@ -235,7 +236,7 @@ pub record Puts {R : Type 0} (asks : R → Command → Answer → R → Type 0) 
 
 -- ---- a file of the host's
 
-abbrev pub PutsNew : {R : Type 0} → (asks : R → Command → Answer → R → Type 0) → (content : R → ℕ → List ℕ) → (fresh : Bool) → R → Option ℕ → List (List ℕ) → (changed_only : Bool) → List ℕ → Answer → R → Type 0
+abbrev pub PutsNew : {R : Type 0} → (asks : R → Command → Answer → R → Type 0) → (content : R → ℕ → Fetched) → (fresh : Bool) → R → Option ℕ → List (List ℕ) → (changed_only : Bool) → List ℕ → Answer → R → Type 0
 PutsNew asks content true old id path changed bytes a new = Makes asks old path bytes a new
 PutsNew asks content false old id path changed bytes a new = Puts asks content old id path changed bytes a new
 
@@ -248,7 +249,7 @@ Offers offers old false bytes new = new ≡ old
 abbrev pub is_compared : Storing → Bool
 is_compared s = s.changed_only && not s.fresh
 
-pub record PutsBytes {R : Type 0} (asks : R → Command → Answer → R → Type 0) (content : R → ℕ → List ℕ) (offers : R → List ℕ → R → Type 0) (old : R) (path : List (List ℕ)) (storing : Storing) (bytes : List ℕ) (a : Answer) (new : R) : Type 0 where
+pub record PutsBytes {R : Type 0} (asks : R → Command → Answer → R → Type 0) (content : R → ℕ → Fetched) (offers : R → List ℕ → R → Type 0) (old : R) (path : List (List ℕ)) (storing : Storing) (bytes : List ℕ) (a : Answer) (new : R) : Type 0 where
   pub between : R
   pub may_offer : Offers offers old (is_compared storing) bytes between
   pub puts : PutsNew asks content storing.fresh between storing.id path storing.changed_only bytes a new
@@ -258,11 +259,11 @@ abbrev pub is_kept : Storing → Answer → Bool
 is_kept s a = is_closed a || (is_compared s && is_done a)
 
 -- so many files are told to be at the server: one, and then it is there with these bytes, or none
-pub data Counts {R : Type 0} (asks : R → Command → Answer → R → Type 0) (content : R → ℕ → List ℕ) (offers : R → List ℕ → R → Type 0) (old : R) (path : List (List ℕ)) (storing : Storing) (bytes : List ℕ) (files : ℕ) (new : R) : Type 0 where
+pub data Counts {R : Type 0} (asks : R → Command → Answer → R → Type 0) (content : R → ℕ → Fetched) (offers : R → List ℕ → R → Type 0) (old : R) (path : List (List ℕ)) (storing : Storing) (bytes : List ℕ) (files : ℕ) (new : R) : Type 0 where
   kept : (a : Answer) → PutsBytes asks content offers old path storing bytes a new → is_kept storing a ≡ true → files ≡ 1 → Counts asks content offers old path storing bytes files new
   not_kept : files ≡ 0 → Counts asks content offers old path storing bytes files new
 
 -- and these bytes are those that a reading of that file told
-pub data CountsRead {R F : Type 0} (asks : R → Command → Answer → R → Type 0) (content : R → ℕ → List ℕ) (offers : R → List ℕ → R → Type 0) (reads : F → List ℕ → Result (List ℕ) LocalFault → F → Type 0) (old : R) (host : F) (local : List ℕ) (path : List (List ℕ)) (storing : Storing) (files : ℕ) (new : R) (host' : F) : Type 0 where
+pub data CountsRead {R F : Type 0} (asks : R → Command → Answer → R → Type 0) (content : R → ℕ → Fetched) (offers : R → List ℕ → R → Type 0) (reads : F → List ℕ → Result (List ℕ) LocalFault → F → Type 0) (old : R) (host : F) (local : List ℕ) (path : List (List ℕ)) (storing : Storing) (files : ℕ) (new : R) (host' : F) : Type 0 where
   was_read : (bytes : List ℕ) → reads host local (Ok bytes) host' → Counts asks content offers old path storing bytes files new → CountsRead asks content offers reads old host local path storing files new host'
   not_read : files ≡ 0 → CountsRead asks content offers reads old host local path storing files new host'

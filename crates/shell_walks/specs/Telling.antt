@@ -59,7 +59,7 @@ why_text why.PeerMemory = codes "the server has no memory left"
 why_text (why.BadPeer n) = codes "the server broke the protocol, or is no lbfs share (" ++ decimal n ++ codes ")"
 why_text why.Root = codes "the root is there and stays"
 why_text why.Memory = codes "no memory is left"
-why_text why.Unstored = codes "nothing is stored in it yet (a put goes on, or was stopped)"
+why_text why.Unstored = codes "nothing is stored in it yet (a put goes on, or is to be done again)"
 
 abbrev pub fault_text : LocalFault → List ℕ
 fault_text fault.Missing = codes "no such file or folder here"

@@ -1,15 +1,15 @@
 //! How the content of a file becomes the host's: `specs/Fetching.antt`.
 
-ghost use Rattle.std.specs.Prelude.{◌≡◌, ◌==◌, length, false, IfOk, OnErr};
+ghost use Rattle.std.specs.Prelude.{◌≡◌, false, IfOk, OnErr};
 ghost use Rattle.shell_walks.specs.Storing.{AbandonsIf};
-ghost use Rattle.shell_walks.specs.Fetching.{got_of, withheld, withheld_seen, Keeps, KeepsIf, KeepsLooked, KeepsNone, KeepsUnless};
-ghost use Rattle.shell_walks.specs.Fetching.{Fetches, Gets, CatsOpen, Cats};
+ghost use Rattle.shell_walks.specs.Fetched.{is_never_stored};
+ghost use Rattle.shell_walks.specs.Fetching.{got_of, Keeps, KeepsIf, Fetches, Gets, CatsOpen, Cats};
 ghost use Rattle.shell_walks.specs.Telling.{fine};
 
 use crate::asking::{Deed, ask_on, open};
 use crate::folder::{Folder, LocalFault};
-use crate::remote::{Answer, Remote, Seen, Why};
-use crate::storing::{is_as_made, opened_file};
+use crate::remote::{Remote, Why};
+use crate::storing::{is_never_stored, opened_file};
 use crate::telling::{refused_told, why_of};
 use crate::told::{Told, fine};
 use command_text::command::Command;
@@ -54,79 +54,22 @@ fn keep_bytes<R: Remote, F: Folder>(
     got_of(len, wrote)
 }
 
-/// Why no bytes aren't written, if they aren't, by what a path stands for. What has bytes by now, or another's path,
-/// changed since it was opened: whether somebody had stored in it then isn't known.
-fn withheld_seen(file: u64, seen: Seen) -> Option<Why>
-    ensures { result ≡ withheld_seen file seen }
-{
-    if is_as_made(file, seen) {
-        Some(Why::Unstored)
-    } else if !seen.is_dir && seen.id == file && seen.len == 0 {
-        None
-    } else {
-        Some(Why::Changed)
-    }
-}
-
-/// Why no bytes aren't written, if they aren't, by what a look told.
-fn withheld(file: u64, looked: &Answer) -> Option<Why>
-    ensures { result ≡ withheld file looked.now }
-{
-    match looked {
-        Answer::Seen(seen) => withheld_seen(file, *seen),
-        other => Some(why_of(other)),
-    }
-}
-
-/// A file of the host has no bytes.
-fn keep_none<F: Folder>(alloc: Global, folder: &mut F, local: &str) -> Got
-    ensures { KeepsNone F.writes folder.old local.now result folder.new }
-{
-    got_of(0, folder.write(alloc, local, &[]))
-}
-
-/// A file of the host has no bytes, unless they are withheld: then it stays as it is.
-fn keep_unless<F: Folder>(alloc: Global, folder: &mut F, withheld: Option<Why>, local: &str) -> Got
-    ensures { KeepsUnless F.writes folder.old withheld local.now result folder.new }
-{
-    match withheld {
-        Some(why) => Got::Refused(why),
-        None => keep_none(alloc, folder, local),
-    }
-}
-
-/// An open file without bytes may be one that is being put for the first time, or whose put was stopped: it would go
-/// over the good file here. So it is looked at. It is abandoned first, so that no end of memory leaves it open.
-fn keep_looked<R: Remote, F: Folder>(
-    alloc: Global,
-    remote: &mut R,
-    folder: &mut F,
-    file: u64,
-    path: &[Name],
-    local: &str,
-) -> Result<Got, AllocError>
-    ensures { IfOk result (λ got. KeepsLooked R.asks F.writes remote.old folder.old file path.now local.now got remote.new folder.new) }
-{
-    drop(remote.ask(alloc, Command::Abandon(file)));
-    let looked = ask_on(alloc, remote, Deed::Look, path)?;
-    Ok(keep_unless(alloc, folder, withheld(file, &looked), local))
-}
-
-/// The content of an open file goes into one of the host; where it has no bytes they may be withheld.
+/// The content of an open file goes into one of the host. One in which nothing is stored yet is abandoned: it stands
+/// empty while somebody puts it, or since a put of it was stopped, and would go over the good file here.
 fn keep<R: Remote, F: Folder>(
     alloc: Global,
     remote: &mut R,
     folder: &mut F,
     file: u64,
-    path: &[Name],
     local: &str,
-) -> Result<Got, AllocError>
-    ensures { IfOk result (λ got. KeepsIf R.asks R.content F.writes remote.old folder.old (length (R.content remote.old file) == 0) file path.now local.now got remote.new folder.new) }
+) -> Got
+    ensures { KeepsIf R.asks R.content F.writes remote.old folder.old (is_never_stored (R.content remote.old file)) file local.now result remote.new folder.new }
 {
-    if remote.content(file).len() == 0 {
-        keep_looked(alloc, remote, folder, file, path, local)
+    if is_never_stored(remote, file) {
+        drop(remote.ask(alloc, Command::Abandon(file)));
+        Got::Refused(Why::Unstored)
     } else {
-        Ok(keep_bytes(alloc, remote, folder, file, local))
+        keep_bytes(alloc, remote, folder, file, local)
     }
 }
 
@@ -143,7 +86,7 @@ fn fetch<R: Remote, F: Folder>(
 {
     let opened = open(alloc, remote, id, path)?;
     match opened_file(&opened) {
-        Some(file) => keep(alloc, remote, folder, file, path, local),
+        Some(file) => Ok(keep(alloc, remote, folder, file, local)),
         None => Ok(Got::Refused(why_of(&opened))),
     }
 }

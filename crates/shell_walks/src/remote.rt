@@ -3,6 +3,7 @@
 ghost use Rattle.std.specs.Prelude.{◌≡◌, ℕ, ◌≤◌, List, length, Bool, IfOk};
 ghost use Rattle.command_text.specs.declared.command.Command.{Command};
 ghost use Rattle.limits.specs.declared.TheConstants.{FILE_MOST};
+ghost use Rattle.shell_walks.specs.Fetched.{Fetched};
 ghost use Rattle.shell_walks.specs.declared.remote.Answer.{Answer};
 
 use command_text::command::Command;
@@ -34,7 +35,7 @@ pub enum Why {
     Root,
     /// Memory ran out.
     Memory,
-    /// It was made, and nothing is stored in it yet: somebody puts it, or a put of it was stopped.
+    /// It was made, and nobody stored in it yet: somebody puts it, a put of it was stopped, or it was only made.
     Unstored,
 }
 
@@ -109,8 +110,8 @@ pub trait Remote {
     /// What a command may come to, and leave.
     ghost asks: { Self → Command → Answer → Self → Type 0 };
 
-    /// The content of an open file; no bytes where it isn't open.
-    ghost content: { Self → ℕ → List ℕ };
+    /// What the client has of an open file.
+    ghost content: { Self → ℕ → Fetched };
 
     /// What an offer of bytes may leave.
     ghost offers: { Self → List ℕ → Self → Type 0 };
@@ -130,7 +131,11 @@ pub trait Remote {
 
     /// The content of an open file; no bytes where it isn't open.
     fn content(&self, file: u64) -> &[u8]
-        ensures { result.now ≡ content self.now file };
+        ensures { result.now ≡ (content self.now file).bytes };
+
+    /// The version in which that was fetched; 0 where it isn't open.
+    fn version(&self, file: u64) -> u64
+        ensures { result ≡ (content self.now file).version };
 
     /// Offers bytes that the host has, so that a fetch doesn't bring those of them again: a hint, which
     /// nobody trusts.

@@ -229,7 +229,7 @@ fn store_at<R: Remote>(
 }
 
 /// Whether it is the file that was made, and nobody stored in it: each storing makes its version larger.
-pub(crate) fn is_as_made(file: u64, seen: Seen) -> bool
+fn is_as_made(file: u64, seen: Seen) -> bool
     ensures { result ≡ is_as_made file seen }
 {
     !seen.is_dir && seen.id == file && seen.version == 1 && seen.len == 0
@@ -367,7 +367,21 @@ pub fn make<R: Remote>(
     }
 }
 
-/// An open file gets these bytes, unless it has them: then it is abandoned, and that was done.
+/// Whether an open file was made, and nobody stored in it yet: each storing makes its version larger.
+pub(crate) fn is_never_stored<R: Remote>(remote: &R, file: u64) -> bool
+    ensures { result ≡ is_never_stored (R.content remote.now file) }
+{
+    remote.content(file).len() == 0 && remote.version(file) == 1
+}
+
+/// Whether an open file has these bytes, and was stored with them.
+fn is_stored_as<R: Remote>(remote: &R, file: u64, bytes: &[u8]) -> bool
+    ensures { result ≡ is_stored_as (R.content remote.now file) bytes.now }
+{
+    remote.content(file) == bytes && !is_never_stored(remote, file)
+}
+
+/// An open file gets these bytes, unless it was stored with them: then it is abandoned, and that was done.
 fn store_changed<R: Remote>(
     alloc: Global,
     remote: &mut R,
@@ -376,7 +390,7 @@ fn store_changed<R: Remote>(
 ) -> Result<Answer, AllocError>
     ensures { IfOk result (λ answer. StoresChanged R.asks R.content remote.old file bytes answer remote.new) }
 {
-    if remote.content(file) == bytes.as_slice() {
+    if is_stored_as(remote, file, bytes.as_slice()) {
         return Ok(left_as(remote.ask(alloc, Command::Abandon(file))));
     }
     store(alloc, remote, file, bytes)

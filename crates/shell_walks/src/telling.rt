@@ -118,7 +118,7 @@ pub fn put_why(alloc: Global, out: &mut Bytes, why: Why) -> Result<(), AllocErro
         Why::Root => out.extend_from_slice(b"the root is there and stays"),
         Why::Memory => out.extend_from_slice(b"no memory is left"),
         Why::Unstored => out.extend_from_slice(
-            b"nothing is stored in it yet (a put goes on, or was stopped)",
+            b"nothing is stored in it yet (a put goes on, or is to be done again)",
         ),
     }
 }
