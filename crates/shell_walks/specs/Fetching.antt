@@ -1,5 +1,5 @@
 -- How the content of a file becomes the host's, over what a client does at any command (`asks`), what it has open (`content`), and what comes of a writing of the host's (`writes`) and of a trial of one (`tries`).
-use Rattle.std.specs.Prelude.{◌≡◌, ℕ, List, length, Bool, true, false, Option, Some, None, Result, Ok, Err}
+use Rattle.std.specs.Prelude.{◌≡◌, ℕ, List, length, Bool, true, false, Option, Some, None, Result, Ok, Err, if◌then◌else◌}
 use Rattle.command_text.specs.declared.command.Command.{Command}
 use Rattle.command_text.specs.declared.command.Command.TheVariants as command
 use Rattle.shell_walks.specs.Asking.{command_on, AsksOn, Finds}
@@ -67,13 +67,17 @@ pub record Gets {R F : Type 0} (asks : R → Command → Answer → R → Type 0
 
 -- ---- cat
 
-pub record CatsOpen {R : Type 0} (asks : R → Command → Answer → R → Type 0) (content : R → ℕ → Fetched) (old : R) (file : ℕ) (told : Told) (new : R) : Type 0 where
+-- of a file in which nobody stored yet it is said that there is nothing to tell
+abbrev pub content_told : (path : List (List ℕ)) → Fetched → Told
+content_told path c = if is_never_stored c then refused_told path why.Unstored else fine c.bytes
+
+pub record CatsOpen {R : Type 0} (asks : R → Command → Answer → R → Type 0) (content : R → ℕ → Fetched) (old : R) (path : List (List ℕ)) (file : ℕ) (told : Told) (new : R) : Type 0 where
   pub answer : Answer
   pub abandons : asks old (command.Abandon file) answer new
-  pub is_told : told ≡ fine (content old file).bytes
+  pub is_told : told ≡ content_told path (content old file)
 
 abbrev pub CatsIf : {R : Type 0} → (asks : R → Command → Answer → R → Type 0) → (content : R → ℕ → Fetched) → R → Option ℕ → Answer → List (List ℕ) → Told → R → Type 0
-CatsIf asks content old (Some file) opened path told new = CatsOpen asks content old file told new
+CatsIf asks content old (Some file) opened path told new = CatsOpen asks content old path file told new
 CatsIf asks content old None opened path told new = (new ≡ old) × (told ≡ refused_told path (why_of opened))
 
 pub record Cats {R : Type 0} (asks : R → Command → Answer → R → Type 0) (content : R → ℕ → Fetched) (old : R) (path : List (List ℕ)) (told : Told) (new : R) : Type 0 where

@@ -135,9 +135,13 @@ may_store a = false
 
 -- ---- a file that was made, and then refused its bytes, is removed again
 
--- what is seen is the file that was made, and nobody stored in it: version 1 is an empty file's that was made
+-- what is seen is a file that was made, and nobody stored in it: version 1 is an empty file's that was made
+abbrev pub is_only_made : Seen → Bool
+is_only_made seen = not seen.is_dir && seen.version == 1 && seen.len == 0
+
+-- that file
 abbrev pub is_as_made : (file : ℕ) → Seen → Bool
-is_as_made file seen = not seen.is_dir && seen.id == file && seen.version == 1 && seen.len == 0
+is_as_made file seen = seen.id == file && is_only_made seen
 
 abbrev pub is_unstored : (file : ℕ) → Answer → Bool
 is_unstored file (answer.Seen seen) = is_as_made file seen

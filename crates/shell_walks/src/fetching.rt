@@ -1,10 +1,9 @@
 //! How the content of a file becomes the host's: `specs/Fetching.antt`.
 
-ghost use Rattle.std.specs.Prelude.{◌≡◌, false, IfOk, OnErr};
+ghost use Rattle.std.specs.Prelude.{◌≡◌, false, IfOk, Ok, OnErr};
 ghost use Rattle.shell_walks.specs.Storing.{AbandonsIf};
 ghost use Rattle.shell_walks.specs.Fetched.{is_never_stored};
-ghost use Rattle.shell_walks.specs.Fetching.{got_of, Keeps, KeepsIf, Fetches, Gets, CatsOpen, Cats};
-ghost use Rattle.shell_walks.specs.Telling.{fine};
+ghost use Rattle.shell_walks.specs.Fetching.{got_of, Keeps, KeepsIf, Fetches, Gets, content_told, CatsOpen, Cats};
 
 use crate::asking::{Deed, ask_on, open};
 use crate::folder::{Folder, LocalFault};
@@ -82,7 +81,8 @@ fn fetch<R: Remote, F: Folder>(
     path: &[Name],
     local: &str,
 ) -> Result<Got, AllocError>
-    ensures { IfOk result (λ got. Fetches R.asks R.content F.writes remote.old folder.old id path.now local.now got remote.new folder.new) }
+    ensures fetches { IfOk result (λ got. Fetches R.asks R.content F.writes remote.old folder.old id path.now local.now got remote.new folder.new) }
+    ensures stays { OnErr result (folder.new ≡ folder.old) }
 {
     let opened = open(alloc, remote, id, path)?;
     match opened_file(&opened) {
@@ -100,7 +100,8 @@ pub fn get<R: Remote, F: Folder>(
     path: &[Name],
     local: &str,
 ) -> Result<Got, AllocError>
-    ensures { IfOk result (λ got. Gets R.asks R.content F.writes F.tries remote.old folder.old id path.now local.now got remote.new folder.new) }
+    ensures gets { IfOk result (λ got. Gets R.asks R.content F.writes F.tries remote.old folder.old id path.now local.now got remote.new folder.new) }
+    ensures tries { OnErr result (F.tries folder.old local.now (Ok tt) folder.new) }
 {
     match folder.try_write(alloc, local) {
         Ok(()) => fetch(alloc, remote, folder, id, path, local),
@@ -108,14 +109,36 @@ pub fn get<R: Remote, F: Folder>(
     }
 }
 
+/// The content of an open file, to be told; where nobody stored in it yet, that there is none.
+fn content_told<R: Remote>(
+    alloc: Global,
+    remote: &R,
+    path: &[Name],
+    file: u64,
+) -> Result<Told, AllocError>
+    ensures { IfOk result (λ told. told ≡ content_told path.now (R.content remote.now file)) }
+{
+    if is_never_stored(remote, file) {
+        refused_told(alloc, path, Why::Unstored)
+    } else {
+        let copied = Items::copy_of(alloc, remote.content(file))?;
+        Ok(fine(alloc, copied))
+    }
+}
+
 /// The content of an open file is told, and the file is abandoned, also where there is no memory for the content.
-fn tell<R: Remote>(alloc: Global, remote: &mut R, file: u64) -> Result<Told, AllocError>
-    ensures tells { IfOk result (λ told. CatsOpen R.asks R.content remote.old file told remote.new) }
+fn tell<R: Remote>(
+    alloc: Global,
+    remote: &mut R,
+    path: &[Name],
+    file: u64,
+) -> Result<Told, AllocError>
+    ensures tells { IfOk result (λ told. CatsOpen R.asks R.content remote.old path.now file told remote.new) }
     ensures abandons { OnErr result (AbandonsIf R.asks remote.old file false remote.new) }
 {
-    let copied = Items::copy_of(alloc, remote.content(file));
+    let told = content_told(alloc, remote, path, file);
     drop(remote.ask(alloc, Command::Abandon(file)));
-    Ok(fine(alloc, copied?))
+    told
 }
 
 /// Tells the content of a file.
@@ -124,7 +147,7 @@ pub fn cat<R: Remote>(alloc: Global, remote: &mut R, path: &[Name]) -> Result<To
 {
     let opened = ask_on(alloc, remote, Deed::Find, path)?;
     match opened_file(&opened) {
-        Some(file) => tell(alloc, remote, file),
+        Some(file) => tell(alloc, remote, path, file),
         None => refused_told(alloc, path, why_of(&opened)),
     }
 }

@@ -2,10 +2,11 @@
 
 ghost use Rattle.std.specs.Prelude.{◌≡◌, ◌∷◌, [], false, IfOk, OnErr, bytes_eq};
 ghost use Rattle.command_text.specs.declared.content.Part.TheVariants as part;
+ghost use Rattle.shell_walks.specs.Fetched.{is_never_stored, is_stored_as};
 ghost use Rattle.shell_walks.specs.Storing.{is_done, is_closed, made_file, opened_file, failed_as, failure_of, closed_as, left_as, renewed_as};
 ghost use Rattle.shell_walks.specs.Storing.{Replaces, Abandons, AbandonsIf, Stores, StoresIf};
 ghost use Rattle.shell_walks.specs.Storing.{RenewsId, RenewsIf};
-ghost use Rattle.shell_walks.specs.Storing.{is_as_made, is_unstored, taken_as, TakesOut, TakesBack, TakesAfter};
+ghost use Rattle.shell_walks.specs.Storing.{is_as_made, is_only_made, is_unstored, taken_as, TakesOut, TakesBack, TakesAfter};
 ghost use Rattle.shell_walks.specs.Storing.{RenewsSeen, Renews, StoresAt, StoresMade, is_missing, may_store, MakesElse, Makes, StoresChanged, PutsOpen, MakesUnless, Opens, Puts};
 
 use crate::asking::{Deed, ask_on, open};
@@ -228,11 +229,18 @@ fn store_at<R: Remote>(
     store_opened(alloc, remote, opened, bytes)
 }
 
-/// Whether it is the file that was made, and nobody stored in it: each storing makes its version larger.
+/// Whether it is a file that was made, and nobody stored in it: each storing makes its version larger.
+pub fn is_only_made(seen: Seen) -> bool
+    ensures { result ≡ is_only_made seen }
+{
+    !seen.is_dir && seen.version == 1 && seen.len == 0
+}
+
+/// Whether it is that file, and nobody stored in it.
 fn is_as_made(file: u64, seen: Seen) -> bool
     ensures { result ≡ is_as_made file seen }
 {
-    !seen.is_dir && seen.id == file && seen.version == 1 && seen.len == 0
+    seen.id == file && is_only_made(seen)
 }
 
 /// Whether a look told that the file that was made is at its path, and that nobody stored in it.
