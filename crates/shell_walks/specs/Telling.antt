@@ -139,7 +139,7 @@ why_of a = why.Order
 
 -- of what wasn't stored, where a file may have been made for it
 abbrev pub unstored_text : Answer → List ℕ
-unstored_text (answer.Left w) = why_text w ++ codes "; a new file may stay there, empty (rm it before a get)"
+unstored_text (answer.Left w) = why_text w ++ codes "; a new file may stay there, empty"
 unstored_text a = why_text (why_of a)
 
 -- there is no connection, so nothing else need be begun

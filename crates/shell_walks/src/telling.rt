@@ -335,10 +335,10 @@ pub fn left_text(alloc: Global, count: u64) -> Result<Bytes, AllocError>
 
 /// Why something wasn't stored for which a file was made, in words.
 fn put_left(alloc: Global, out: &mut Bytes, why: Why) -> Result<(), AllocError>
-    ensures { OnOk result (out.new ≡ out.old ++ (why_text why ++ codes "; a new file may stay there, empty (rm it before a get)")) }
+    ensures { OnOk result (out.new ≡ out.old ++ (why_text why ++ codes "; a new file may stay there, empty")) }
 {
     put_why(alloc, out, why)?;
-    out.extend_from_slice(b"; a new file may stay there, empty (rm it before a get)")
+    out.extend_from_slice(b"; a new file may stay there, empty")
 }
 
 /// Why something wasn't stored, in words, and that a file may have been made for it.
