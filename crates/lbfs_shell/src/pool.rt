@@ -4,14 +4,14 @@
 
 ghost use Rattle.std.specs.Prelude.{◌≡◌, ◌≤◌, ◌+◌, ◌-◌, ◌∷◌, ◌++◌, ◌||◌, [], IfOk, IfSome, OnOk, None, Some, true, false, length, reverse, if◌then◌else◌};
 ghost use Rattle.lbfs_shell.specs.Jobs.{others, removals, removes, still_later, to_do};
-ghost use Rattle.shell_telling.specs.Tally.{capped_sum, with_visit};
-ghost use Rattle.shell_telling.specs.Telling.{left_out_text};
+ghost use Rattle.shell_telling.specs.Tally.{capped_sum, nothing_yet, with_visit};
+ghost use Rattle.shell_telling.specs.Telling.{again_of, left_out_text, stopped_line};
 
 use folder_tasks::visiting::Visited;
 use last_words::keeping::Keeps;
 use lb_base::items::{Bytes, Items};
 use shell_telling::tally::Tally;
-use shell_telling::telling::{Glance, again_text, left_out_text, shown_line, stopped_line};
+use shell_telling::telling::{Again, Glance, again_of, left_out_text, shown_line, stopped_line};
 use shell_walks::screen::Screen;
 use shell_walks::tasks::Task;
 use shell_words::local::LocalPath;
@@ -29,8 +29,8 @@ struct Jobs {
     /// How many are being done.
     busy: u64,
     tally: Tally,
-    /// What goes on with them, where the program is ended, or no server answers any more.
-    again: Bytes,
+    /// What goes on with them.
+    again: Again,
     /// Whether what was stored and removed isn't said.
     is_quiet: bool,
     /// Whether it is shown how many files were done, and not only that it waits.
@@ -99,6 +99,45 @@ fn add_all(
 }
 
 impl Jobs {
+    /// These tasks are to do, of which less is said where it is quiet. Nothing came of them yet.
+    fn of(alloc: Global, tasks: Vec<Task>, again: Again, is_quiet: bool, counts: bool) -> Jobs
+        ensures given { result.tasks.items ≡ tasks.items }
+        ensures again { result.again ≡ again }
+        ensures fresh { (result.later.items ≡ []) × (result.busy ≡ 0) × (result.tally ≡ nothing_yet) × (result.left_out ≡ 0) × (result.is_off ≡ false) × (result.is_starved ≡ false) }
+    {
+        Jobs {
+            tasks,
+            later: Vec::new(alloc),
+            busy: 0,
+            tally: Tally::new(),
+            again,
+            is_quiet,
+            counts,
+            is_off: false,
+            left_out: 0,
+            is_starved: false,
+            is_shown: false,
+            is_over: false,
+        }
+    }
+
+    /// One task is to do, of a program that runs in this folder.
+    fn one(
+        alloc: Global,
+        here: &Option<LocalPath>,
+        task: Task,
+        is_quiet: bool,
+    ) -> Result<Jobs, AllocError>
+        ensures given { IfOk result (λ jobs. jobs.tasks.items ≡ task ∷ []) }
+        ensures again { IfOk result (λ jobs. jobs.again ≡ again_of here.now task) }
+        ensures fresh { IfOk result (λ jobs. (jobs.later.items ≡ []) × (jobs.busy ≡ 0) × (jobs.tally ≡ nothing_yet) × (jobs.left_out ≡ 0) × (jobs.is_off ≡ false) × (jobs.is_starved ≡ false)) }
+    {
+        let again = again_of(alloc, here, &task)?;
+        let mut tasks = Vec::new(alloc);
+        tasks.push(task)?;
+        Ok(Jobs::of(alloc, tasks, again, is_quiet, true))
+    }
+
     /// How many tasks are known that aren't begun.
     fn not_begun(&self) -> u64
         ensures { result ≡ capped_sum (length self.now.tasks.items) (length self.now.later.items) }
@@ -182,10 +221,10 @@ impl Jobs {
 
     /// What is said at the end: how many tasks weren't begun, and how one goes on where no server answers any more.
     fn left_out_said(&self, alloc: Global) -> Result<Bytes, AllocError>
-        ensures { IfOk result (λ text. text ≡ (if self.now.is_off || self.now.is_starved then left_out_text self.now.left_out self.now.again else [])) }
+        ensures { IfOk result (λ text. text ≡ (if self.now.is_off || self.now.is_starved then left_out_text self.now.left_out self.now.again.lost else [])) }
     {
         if self.is_off || self.is_starved {
-            left_out_text(alloc, self.left_out, self.again.as_slice())
+            left_out_text(alloc, self.left_out, self.again.lost.as_slice())
         } else {
             Ok(Items::new(alloc))
         }
@@ -199,12 +238,24 @@ impl Jobs {
         }
     }
 
-    /// How far it is, is to be said where the program is ended now.
+    /// What is said where the program is ended now: how far it is, and how one goes on.
+    fn stopped_said(&self, alloc: Global) -> Result<Bytes, AllocError>
+        ensures { IfOk result (λ text. text ≡ stopped_line self.now.tally (capped_sum (length self.now.tasks.items + length self.now.later.items) self.now.busy) self.now.again.stopped) }
+    {
+        stopped_line(
+            alloc,
+            self.tally,
+            self.left(),
+            self.again.stopped.as_slice(),
+        )
+    }
+
+    /// That is to be said there.
     fn keep<P: Keeps>(&self, alloc: Global, screen: &P) {
         if self.is_quiet {
             return;
         }
-        if let Ok(line) = stopped_line(alloc, self.tally, self.left(), self.again.as_slice()) {
+        if let Ok(line) = self.stopped_said(alloc) {
             screen.keep(line.as_slice());
         }
     }
@@ -298,23 +349,10 @@ impl Jobs {
 }
 
 impl Pool {
-    /// These tasks are to do, of which less is said where it is quiet.
-    fn of(alloc: Global, tasks: Vec<Task>, again: Bytes, is_quiet: bool, counts: bool) -> Pool {
+    /// These are shared.
+    fn of(jobs: Jobs) -> Pool {
         Pool {
-            jobs: Mutex::new(Jobs {
-                tasks,
-                later: Vec::new(alloc),
-                busy: 0,
-                tally: Tally::new(),
-                again,
-                is_quiet,
-                counts,
-                is_off: false,
-                left_out: 0,
-                is_starved: false,
-                is_shown: false,
-                is_over: false,
-            }),
+            jobs: Mutex::new(jobs),
             news: Condvar::new(),
         }
     }
@@ -326,15 +364,16 @@ impl Pool {
         task: Task,
         is_quiet: bool,
     ) -> Result<Pool, AllocError> {
-        let again = again_text(alloc, here, &task)?;
-        let mut tasks = Vec::new(alloc);
-        tasks.push(task)?;
-        Ok(Pool::of(alloc, tasks, again, is_quiet, true))
+        Ok(Pool::of(Jobs::one(alloc, here, task, is_quiet)?))
     }
 
     /// A command is under way that isn't done in tasks: only that it waits is shown.
     pub(crate) fn without_tasks(alloc: Global) -> Pool {
-        Pool::of(alloc, Vec::new(alloc), Items::new(alloc), true, false)
+        let again = Again {
+            stopped: Items::new(alloc),
+            lost: Items::new(alloc),
+        };
+        Pool::of(Jobs::of(alloc, Vec::new(alloc), again, true, false))
     }
 
     /// It is begun: how far it is, is to be said where the program is ended.

@@ -6,6 +6,7 @@ use Rattle.shell_walks.specs.Telling.{path_text}
 use Rattle.shell_walks.specs.declared.tasks.Task.{Task}
 use Rattle.shell_walks.specs.declared.tasks.Task.TheVariants as task
 use Rattle.shell_telling.specs.declared.tally.Tally.{Tally}
+use Rattle.shell_telling.specs.declared.telling.Again.{Again}
 use Rattle.shell_telling.specs.declared.telling.Glance.{Glance}
 use Rattle.shell_telling.specs.Tally.{capped_sum}
 
@@ -84,27 +85,47 @@ abbrev pub shown_line : (counts : Bool) → Glance → Option (List ℕ)
 shown_line true g = Some (progress_line g)
 shown_line false g = if nat_le 2000 g.still then Some waiting_line else None
 
--- what goes on with a folder, and with a directory: it goes to LOCAL itself, which is there by then. It is no line for the host's own shell, which may have a `sync`, too
+-- what goes on with a command: what is in a folder goes to PATH itself, and what is in a directory to LOCAL itself, which are there by then. It is no line for the host's own shell, which may have a `sync`, too
 abbrev pub again_words : List ℕ
 again_words = codes "to go on in lbfs shell: "
 
-abbrev pub delete_words : Bool → List ℕ
-delete_words true = codes "--delete "
-delete_words false = []
+abbrev pub put_words : (deep deletes : Bool) → List ℕ
+put_words true true = codes "sync --delete "
+put_words true false = codes "sync "
+put_words false deletes = codes "put "
 
-abbrev pub sync_again : (deep deletes : Bool) → (local : List ℕ) → (path : List (List ℕ)) → List ℕ
-sync_again true deletes local path = again_words ++ codes "sync " ++ delete_words deletes ++ quoted local ++ codes " " ++ path_text path
-sync_again false deletes local path = []
+abbrev pub put_again : (deep deletes : Bool) → (local : List ℕ) → (path : List (List ℕ)) → List ℕ
+put_again deep deletes local path = again_words ++ put_words deep deletes ++ quoted local ++ codes " " ++ path_text path
+
+abbrev pub get_words : (deep : Bool) → List ℕ
+get_words true = codes "get -r "
+get_words false = codes "get "
+
+abbrev pub within_words : (deep : Bool) → List ℕ
+within_words true = codes "/. "
+within_words false = codes " "
 
 abbrev pub get_again : (deep : Bool) → (path : List (List ℕ)) → (local : List ℕ) → List ℕ
-get_again true path local = again_words ++ codes "get -r " ++ path_text path ++ codes "/. " ++ quoted local
-get_again false path local = []
+get_again deep path local = again_words ++ get_words deep ++ path_text path ++ within_words deep ++ quoted local
 
 -- LOCAL from the root, by the folder in which the program runs: so it is the same behind any `lcd`, and in a shell that is begun elsewhere
 abbrev pub again_text : (here : Option (List ℕ)) → Task → List ℕ
-again_text here (task.Put local path s) = sync_again s.deep s.deletes (whole_path here local) path
+again_text here (task.Put local path s) = put_again s.deep s.deletes (whole_path here local) path
 again_text here (task.Get path local deep id) = get_again deep path (whole_path here local)
 again_text here t = []
+
+abbrev pub is_deep : Task → Bool
+is_deep (task.Put local path s) = s.deep
+is_deep (task.Get path local deep id) = deep
+is_deep t = false
+
+abbrev pub lost_text : (deep : Bool) → (again : List ℕ) → List ℕ
+lost_text true again = again
+lost_text false again = []
+
+-- where no server answers any more nothing is said of one file: whoever typed that knows it
+abbrev pub again_of : (here : Option (List ℕ)) → Task → Again
+again_of here t = record { stopped = again_text here t; lost = lost_text (is_deep t) (again_text here t) }
 
 -- these words, where there are some, behind what is said
 abbrev pub behind : (again : List ℕ) → List ℕ

@@ -3,7 +3,8 @@
 ghost use Rattle.std.specs.Prelude.{◌≡◌, ◌++◌, IfOk, OnOk, codes, decimal};
 ghost use Rattle.shell_telling.specs.Telling.{count_text, big_text, middle_text, size_text, undone_text, counts_text, end_line, rate_text, left_of, left_text, files_text, line_part};
 ghost use Rattle.shell_telling.specs.Telling.{pace_text, progress_line, waits_text, waiting_line, shown_line, left_out_text, stopped_line, unsure_line};
-ghost use Rattle.shell_telling.specs.Telling.{delete_words, again_words, sync_again, get_again, again_text, behind, way_on};
+ghost use Rattle.shell_telling.specs.Telling.{again_words, put_words, put_again, get_words, within_words, get_again, again_text};
+ghost use Rattle.shell_telling.specs.Telling.{is_deep, lost_text, again_of, behind, way_on};
 ghost use Rattle.shell_telling.specs.Telling.{prompt_text, number_text, line_text};
 
 use crate::tally::Tally;
@@ -27,6 +28,23 @@ pub struct Glance {
     pub spent: u64,
     /// For how many milliseconds no byte has gone over the line.
     pub still: u64,
+}
+
+/// The words that go on with a command; no bytes where none are said.
+pub struct Again {
+    /// Where the program is ended in its midst.
+    pub stopped: Bytes,
+    /// Where no server answers any more, or memory ran out.
+    pub lost: Bytes,
+}
+
+// By hand: docs/proving/dropping.md.
+impl Drop for Again {
+    fn drop(self) {
+        let Again { stopped, lost } = self;
+        drop(stopped);
+        drop(lost);
+    }
 }
 
 /// Behind how many such milliseconds it is said that the server is waited for.
@@ -238,13 +256,6 @@ pub fn shown_line(alloc: Global, counts: bool, glance: Glance) -> Result<Option<
     }
 }
 
-/// The option of a `sync` that deletes.
-fn delete_words(deletes: bool) -> &'static [u8]
-    ensures { result.now ≡ delete_words deletes }
-{
-    if deletes { b"--delete " } else { b"" }
-}
-
 /// That what follows goes on with a command, and where it is typed.
 fn again_words() -> &'static [u8]
     ensures { result.now ≡ again_words }
@@ -252,50 +263,70 @@ fn again_words() -> &'static [u8]
     b"to go on in lbfs shell: "
 }
 
-/// What goes on with a folder that is stored.
-fn sync_again(
+/// The command that goes on with what is stored, and its option.
+fn put_words(deep: bool, deletes: bool) -> &'static [u8]
+    ensures { result.now ≡ put_words deep deletes }
+{
+    if !deep {
+        b"put "
+    } else if deletes {
+        b"sync --delete "
+    } else {
+        b"sync "
+    }
+}
+
+/// What goes on with a file or a folder that is stored.
+fn put_again(
     alloc: Global,
     deep: bool,
     deletes: bool,
     local: &str,
     path: &[Name],
 ) -> Result<Bytes, AllocError>
-    ensures { IfOk result (λ text. text ≡ sync_again deep deletes local.now path.now) }
+    ensures { IfOk result (λ text. text ≡ put_again deep deletes local.now path.now) }
 {
-    if !deep {
-        return Ok(Items::new(alloc));
-    }
     let here = quoted(alloc, local.as_bytes())?;
     let there = path_text(alloc, path)?;
     let mut out = Items::copy_of(alloc, again_words())?;
-    out.extend_from_slice(b"sync ")?;
-    out.extend_from_slice(delete_words(deletes))?;
+    out.extend_from_slice(put_words(deep, deletes))?;
     out.extend_from_slice(here.as_slice())?;
     out.extend_from_slice(b" ")?;
     out.extend_from_slice(there.as_slice())?;
     Ok(out)
 }
 
-/// What goes on with a directory that is fetched.
+/// The command that goes on with what is fetched, and its option.
+fn get_words(deep: bool) -> &'static [u8]
+    ensures { result.now ≡ get_words deep }
+{
+    if deep { b"get -r " } else { b"get " }
+}
+
+/// What stands behind its path: of a directory what is in it is meant.
+fn within_words(deep: bool) -> &'static [u8]
+    ensures { result.now ≡ within_words deep }
+{
+    if deep { b"/. " } else { b" " }
+}
+
+/// What goes on with a file or a directory that is fetched.
 fn get_again(alloc: Global, deep: bool, path: &[Name], local: &str) -> Result<Bytes, AllocError>
     ensures { IfOk result (λ text. text ≡ get_again deep path.now local.now) }
 {
-    if !deep {
-        return Ok(Items::new(alloc));
-    }
     let there = path_text(alloc, path)?;
     let here = quoted(alloc, local.as_bytes())?;
     let mut out = Items::copy_of(alloc, again_words())?;
-    out.extend_from_slice(b"get -r ")?;
+    out.extend_from_slice(get_words(deep))?;
     out.extend_from_slice(there.as_slice())?;
-    out.extend_from_slice(b"/. ")?;
+    out.extend_from_slice(within_words(deep))?;
     out.extend_from_slice(here.as_slice())?;
     Ok(out)
 }
 
 /// What goes on with a task, where it was ended in the midst of what came from it, of a program that runs in this
 /// folder, if that is known.
-pub fn again_text(alloc: Global, here: &Option<LocalPath>, task: &Task) -> Result<Bytes, AllocError>
+fn again_text(alloc: Global, here: &Option<LocalPath>, task: &Task) -> Result<Bytes, AllocError>
     ensures { IfOk result (λ text. text ≡ again_text here.now task.now) }
 {
     match task {
@@ -305,7 +336,7 @@ pub fn again_text(alloc: Global, here: &Option<LocalPath>, task: &Task) -> Resul
             storing,
         } => {
             let local = LocalPath::whole(alloc, here, local.as_str())?;
-            sync_again(
+            put_again(
                 alloc,
                 storing.deep,
                 storing.deletes,
@@ -324,6 +355,37 @@ pub fn again_text(alloc: Global, here: &Option<LocalPath>, task: &Task) -> Resul
         }
         Task::Remove(_) => Ok(Items::new(alloc)),
     }
+}
+
+/// Whether a task is one of a folder or a directory.
+fn is_deep(task: &Task) -> bool
+    ensures { result ≡ is_deep task.now }
+{
+    match task {
+        Task::Put { storing, .. } => storing.deep,
+        Task::Get { deep, .. } => *deep,
+        Task::Remove(_) => false,
+    }
+}
+
+/// What is said of that where no server answers any more: of one file nothing is.
+fn lost_text(alloc: Global, deep: bool, again: &[u8]) -> Result<Bytes, AllocError>
+    ensures { IfOk result (λ text. text ≡ lost_text deep again.now) }
+{
+    if deep {
+        Items::copy_of(alloc, again)
+    } else {
+        Ok(Items::new(alloc))
+    }
+}
+
+/// The words that go on with a task, of a program that runs in this folder, if that is known.
+pub fn again_of(alloc: Global, here: &Option<LocalPath>, task: &Task) -> Result<Again, AllocError>
+    ensures { IfOk result (λ again. again ≡ again_of here.now task.now) }
+{
+    let stopped = again_text(alloc, here, task)?;
+    let lost = lost_text(alloc, is_deep(task), stopped.as_slice())?;
+    Ok(Again { stopped, lost })
 }
 
 /// These words go behind what is said, where there are some.
