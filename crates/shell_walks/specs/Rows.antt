@@ -1,40 +1,44 @@
 -- Worked rows of a file that was made, and then wasn't stored: what becomes of it, and what a fetch and a sync make of it.
-use Rattle.std.specs.Prelude.{◌≡◌, ℕ, List, [], ◌∷◌, true, false, refl}
+use Rattle.std.specs.Prelude.{◌≡◌, ℕ, List, [], ◌∷◌, true, false, codes, refl}
 use Rattle.shell_walks.specs.Fetched.{Fetched, is_never_stored, is_stored_as}
-use Rattle.shell_walks.specs.Storing.{is_unstored, taken_as}
-use Rattle.shell_walks.specs.declared.remote.Answer.{Answer}
+use Rattle.shell_walks.specs.Storing.{is_only_made, made_as}
+use Rattle.shell_walks.specs.Telling.{unstored_text}
 use Rattle.shell_walks.specs.declared.remote.Answer.TheVariants as answer
+use Rattle.shell_walks.specs.declared.remote.Seen.{Seen}
 use Rattle.shell_walks.specs.declared.remote.Why.TheVariants as why
 
--- a look that tells a file
-abbrev file_seen : (id version len : ℕ) → Answer
-file_seen id version len = answer.Seen (record { id = id; is_dir = false; version = version; len = len })
+-- what a look tells of a file
+abbrev file_seen : (version len : ℕ) → Seen
+file_seen version len = record { id = 7; is_dir = false; version = version; len = len }
 
-pub as_it_was_made : is_unstored 7 (file_seen 7 1 0) ≡ true
+pub as_it_was_made : is_only_made (file_seen 1 0) ≡ true
 as_it_was_made = refl
 
--- somebody stored in it meanwhile: no bytes, or some
-pub stored_meanwhile : is_unstored 7 (file_seen 7 2 0) ≡ false
-stored_meanwhile = refl
+-- somebody stored in it: no bytes, or some
+pub stored_empty : is_only_made (file_seen 2 0) ≡ false
+stored_empty = refl
 
-pub with_bytes : is_unstored 7 (file_seen 7 1 3) ≡ false
+pub with_bytes : is_only_made (file_seen 1 3) ≡ false
 with_bytes = refl
 
--- another has its path by now: a file, a directory, or nothing
-pub another_file : is_unstored 7 (file_seen 8 1 0) ≡ false
-another_file = refl
-
-pub a_directory : is_unstored 7 (answer.Seen (record { id = 7; is_dir = true; version = 1; len = 0 })) ≡ false
+pub a_directory : is_only_made (record { id = 7; is_dir = true; version = 1; len = 0 }) ≡ false
 a_directory = refl
 
-pub nothing_there : is_unstored 7 (answer.Failed (why.Refused 2)) ≡ false
-nothing_there = refl
+-- what was made and then refused may stay, and so may what was lost; none does that another removed meanwhile
+pub it_was_refused : made_as (answer.Failed (why.Refused 28)) ≡ answer.Left (why.Refused 28)
+it_was_refused = refl
 
-pub gone_again : taken_as (why.Refused 5) answer.Done ≡ answer.Failed (why.Refused 5)
-gone_again = refl
+pub it_was_lost : made_as (answer.Failed why.Lost) ≡ answer.Left why.Lost
+it_was_lost = refl
 
-pub may_stay : taken_as (why.Refused 5) (answer.Failed why.Lost) ≡ answer.Left (why.Refused 5)
-may_stay = refl
+pub it_was_removed : made_as (answer.Failed (why.Refused 70)) ≡ answer.Failed (why.Refused 70)
+it_was_removed = refl
+
+pub it_was_stored : made_as (answer.Closed 2) ≡ answer.Closed 2
+it_was_stored = refl
+
+pub what_is_said_of_it : unstored_text (answer.Left (why.Refused 28)) ≡ codes "the server has no more room; a new file may stay there, empty"
+what_is_said_of_it = refl
 
 -- ---- an open file that has no bytes, or some
 

@@ -4,7 +4,7 @@ use Rattle.command_text.specs.declared.command.Command.{Command}
 use Rattle.command_text.specs.declared.command.Command.TheVariants as command
 use Rattle.command_text.specs.declared.content.Part.{Part}
 use Rattle.command_text.specs.declared.content.Part.TheVariants as part
-use Rattle.shell_walks.specs.Asking.{command_on, AsksOn, Finds}
+use Rattle.shell_walks.specs.Asking.{command_on, AsksOn, Finds, is_gone}
 use Rattle.shell_walks.specs.Fetched.{Fetched, is_stored_as}
 use Rattle.shell_walks.specs.Telling.{why_of}
 use Rattle.shell_walks.specs.declared.asking.Deed.TheVariants as deed
@@ -52,11 +52,6 @@ left_as a = failed_as a
 abbrev pub renewed_as : (file : ℕ) → Answer → Answer
 renewed_as file answer.Done = answer.Opened file
 renewed_as file a = failed_as a
-
--- why it failed, if it did
-abbrev pub failure_of : Answer → Option Why
-failure_of (answer.Failed w) = Some w
-failure_of a = None
 
 -- ---- an open file
 
@@ -133,66 +128,44 @@ may_store answer.Done = true
 may_store (answer.Failed w) = is_there_for w
 may_store a = false
 
--- ---- a file that was made, and then refused its bytes, is removed again
+-- ---- a file that was made for it
 
 -- what is seen is a file that was made, and nobody stored in it: version 1 is an empty file's that was made
 abbrev pub is_only_made : Seen → Bool
 is_only_made seen = not seen.is_dir && seen.version == 1 && seen.len == 0
 
--- that file
-abbrev pub is_as_made : (file : ℕ) → Seen → Bool
-is_as_made file seen = seen.id == file && is_only_made seen
+-- why it failed, if it did
+abbrev pub failure_of : Answer → Option Why
+failure_of (answer.Failed w) = Some w
+failure_of a = None
 
-abbrev pub is_unstored : (file : ℕ) → Answer → Bool
-is_unstored file (answer.Seen seen) = is_as_made file seen
-is_unstored file a = false
+abbrev pub left_unless : (is_gone : Bool) → Why → Answer
+left_unless true w = answer.Failed w
+left_unless false w = answer.Left w
 
--- one that is gone again is told as one that was never made, and any other may stay
-abbrev pub taken_as : Why → (gone : Answer) → Answer
-taken_as w answer.Done = answer.Failed w
-taken_as w a = answer.Left w
+-- where it wasn't stored it may stay, empty, unless another removed it meanwhile
+abbrev pub made_for : Option Why → (stored : Answer) → Answer
+made_for (Some w) stored = left_unless (is_gone stored) w
+made_for None stored = stored
 
-pub record TakesOut {R : Type 0} (asks : R → Command → Answer → R → Type 0) (old : R) (path : List (List ℕ)) (w : Why) (a : Answer) (new : R) : Type 0 where
-  pub gone : Answer
-  pub removes : AsksOn asks old (command_on deed.Remove path) gone new
-  pub told : a ≡ taken_as w gone
+abbrev pub made_as : (stored : Answer) → Answer
+made_as stored = made_for (failure_of stored) stored
 
-abbrev pub TakesIf : {R : Type 0} → (asks : R → Command → Answer → R → Type 0) → R → (is_unstored : Bool) → List (List ℕ) → Why → Answer → R → Type 0
-TakesIf asks old true path w a new = TakesOut asks old path w a new
-TakesIf asks old false path w a new = (new ≡ old) × (a ≡ answer.Left w)
-
--- its path is looked at first: by now it may be another's, or have bytes
-pub record TakesBack {R : Type 0} (asks : R → Command → Answer → R → Type 0) (old : R) (file : ℕ) (path : List (List ℕ)) (w : Why) (a : Answer) (new : R) : Type 0 where
-  pub looked : Answer
-  pub between : R
-  pub looks : AsksOn asks old (command_on deed.Look path) looked between
-  pub goes_on : TakesIf asks between (is_unstored file looked) path w a new
-
--- only where the server refused: what was lost may still be done
-abbrev pub TakesFor : {R : Type 0} → (asks : R → Command → Answer → R → Type 0) → R → Why → (file : ℕ) → List (List ℕ) → Answer → R → Type 0
-TakesFor asks old (why.Refused n) file path a new = TakesBack asks old file path (why.Refused n) a new
-TakesFor asks old w file path a new = (new ≡ old) × (a ≡ answer.Left w)
-
-abbrev pub TakesAfter : {R : Type 0} → (asks : R → Command → Answer → R → Type 0) → R → Option Why → (file : ℕ) → List (List ℕ) → (stored a : Answer) → R → Type 0
-TakesAfter asks old (Some w) file path stored a new = TakesFor asks old w file path a new
-TakesAfter asks old None file path stored a new = (new ≡ old) × (a ≡ stored)
-
--- one whose id was told is opened by that to be written anew, and gets these bytes, or is removed again
-pub record StoresMade {R : Type 0} (asks : R → Command → Answer → R → Type 0) (old : R) (file : ℕ) (path : List (List ℕ)) (bytes : List ℕ) (a : Answer) (new : R) : Type 0 where
+-- one whose id was told is opened by that to be written anew, and gets these bytes
+pub record StoresMade {R : Type 0} (asks : R → Command → Answer → R → Type 0) (old : R) (file : ℕ) (bytes : List ℕ) (a : Answer) (new : R) : Type 0 where
   pub opened : Answer
   pub between : R
   pub opens : RenewsId asks old file opened between
   pub stored : Answer
-  pub after : R
-  pub goes_on : StoresIf asks between (opened_file opened) bytes opened stored after
-  pub takes : TakesAfter asks after (failure_of stored) file path stored a new
+  pub goes_on : StoresIf asks between (opened_file opened) bytes opened stored new
+  pub told : a ≡ made_as stored
 
 abbrev pub MakesElse : {R : Type 0} → (asks : R → Command → Answer → R → Type 0) → R → (may_store : Bool) → List (List ℕ) → List ℕ → (made a : Answer) → R → Type 0
 MakesElse asks old true path bytes made a new = StoresAt asks old path bytes a new
 MakesElse asks old false path bytes made a new = (new ≡ old) × (a ≡ failed_as made)
 
 abbrev pub MakesIf : {R : Type 0} → (asks : R → Command → Answer → R → Type 0) → R → Option ℕ → List (List ℕ) → List ℕ → (made a : Answer) → R → Type 0
-MakesIf asks old (Some file) path bytes made a new = StoresMade asks old file path bytes a new
+MakesIf asks old (Some file) path bytes made a new = StoresMade asks old file bytes a new
 MakesIf asks old None path bytes made a new = MakesElse asks old (may_store made) path bytes made a new
 
 -- a file is made where there is none, and then gets these bytes

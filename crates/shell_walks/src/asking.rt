@@ -97,7 +97,7 @@ pub fn ask_on<R: Remote>(
 }
 
 /// Whether there is no file of that id any more.
-fn is_gone(answer: &Answer) -> bool
+pub(crate) fn is_gone(answer: &Answer) -> bool
     ensures { result ≡ is_gone answer.now }
 {
     matches!(answer, Answer::Failed(Why::Refused(STALE)))

@@ -3,13 +3,13 @@
 ghost use Rattle.std.specs.Prelude.{◌≡◌, ◌∷◌, [], false, IfOk, OnErr, bytes_eq};
 ghost use Rattle.command_text.specs.declared.content.Part.TheVariants as part;
 ghost use Rattle.shell_walks.specs.Fetched.{is_never_stored, is_stored_as};
-ghost use Rattle.shell_walks.specs.Storing.{is_done, is_closed, made_file, opened_file, failed_as, failure_of, closed_as, left_as, renewed_as};
+ghost use Rattle.shell_walks.specs.Storing.{is_done, is_closed, made_file, opened_file, failed_as, closed_as, left_as, renewed_as};
 ghost use Rattle.shell_walks.specs.Storing.{Replaces, Abandons, AbandonsIf, Stores, StoresIf};
 ghost use Rattle.shell_walks.specs.Storing.{RenewsId, RenewsIf};
-ghost use Rattle.shell_walks.specs.Storing.{is_as_made, is_only_made, is_unstored, taken_as, TakesOut, TakesBack, TakesAfter};
+ghost use Rattle.shell_walks.specs.Storing.{is_only_made, failure_of, left_unless, made_as};
 ghost use Rattle.shell_walks.specs.Storing.{RenewsSeen, Renews, StoresAt, StoresMade, is_missing, may_store, MakesElse, Makes, StoresChanged, PutsOpen, MakesUnless, Opens, Puts};
 
-use crate::asking::{Deed, ask_on, open};
+use crate::asking::{Deed, ask_on, is_gone, open};
 use crate::remote::{Answer, Remote, Seen, Why};
 use crate::telling::why_of;
 use command_text::command::Command;
@@ -88,16 +88,6 @@ fn renewed_as(file: u64, answer: Answer) -> Answer
     match &answer {
         Answer::Done => Answer::Opened(file),
         other => failed_as(other),
-    }
-}
-
-/// Why a command failed, if it did.
-fn failure_of(answer: &Answer) -> Option<Why>
-    ensures { result ≡ failure_of answer.now }
-{
-    match answer {
-        Answer::Failed(why) => Some(*why),
-        _ => None,
     }
 }
 
@@ -236,96 +226,49 @@ pub fn is_only_made(seen: Seen) -> bool
     !seen.is_dir && seen.version == 1 && seen.len == 0
 }
 
-/// Whether it is that file, and nobody stored in it.
-fn is_as_made(file: u64, seen: Seen) -> bool
-    ensures { result ≡ is_as_made file seen }
+/// Why a command failed, if it did.
+fn failure_of(answer: &Answer) -> Option<Why>
+    ensures { result ≡ failure_of answer.now }
 {
-    seen.id == file && is_only_made(seen)
-}
-
-/// Whether a look told that the file that was made is at its path, and that nobody stored in it.
-fn is_unstored(file: u64, looked: &Answer) -> bool
-    ensures { result ≡ is_unstored file looked.now }
-{
-    match looked {
-        Answer::Seen(seen) => is_as_made(file, *seen),
-        _ => false,
+    match answer {
+        Answer::Failed(why) => Some(*why),
+        _ => None,
     }
 }
 
-/// What is told of a file that was made and wasn't stored, by what its removal told.
-fn taken_as(why: Why, gone: &Answer) -> Answer
-    ensures { result ≡ taken_as why gone.now }
+/// What is told of a file that was made, and then wasn't stored: it may stay, empty, unless it is gone.
+fn left_unless(is_gone: bool, why: Why) -> Answer
+    ensures { result ≡ left_unless is_gone why }
 {
-    match gone {
-        Answer::Done => Answer::Failed(why),
-        _ => Answer::Left(why),
-    }
-}
-
-/// A file that was made is removed again.
-fn take_out<R: Remote>(
-    alloc: Global,
-    remote: &mut R,
-    path: &[Name],
-    why: Why,
-) -> Result<Answer, AllocError>
-    ensures { IfOk result (λ answer. TakesOut R.asks remote.old path.now why answer remote.new) }
-{
-    let gone = ask_on(alloc, remote, Deed::Remove, path)?;
-    Ok(taken_as(why, &gone))
-}
-
-/// The path of a file that was made is looked at, and the file removed where it is as it was made; else it may stay.
-fn take_back<R: Remote>(
-    alloc: Global,
-    remote: &mut R,
-    file: u64,
-    path: &[Name],
-    why: Why,
-) -> Result<Answer, AllocError>
-    ensures { IfOk result (λ answer. TakesBack R.asks remote.old file path.now why answer remote.new) }
-{
-    let looked = ask_on(alloc, remote, Deed::Look, path)?;
-    if is_unstored(file, &looked) {
-        take_out(alloc, remote, path, why)
+    if is_gone {
+        Answer::Failed(why)
     } else {
-        Ok(Answer::Left(why))
+        Answer::Left(why)
     }
 }
 
-/// A file that was made is taken back where the server refused its bytes. Where the connection was lost they may still
-/// be stored.
-fn take_after<R: Remote>(
-    alloc: Global,
-    remote: &mut R,
-    file: u64,
-    path: &[Name],
-    stored: Answer,
-) -> Result<Answer, AllocError>
-    ensures { IfOk result (λ answer. TakesAfter R.asks remote.old (failure_of stored) file path.now stored answer remote.new) }
+/// What is told of a file that was made, by what its storing told.
+fn made_as(stored: Answer) -> Answer
+    ensures { result ≡ made_as stored }
 {
     match failure_of(&stored) {
-        Some(Why::Refused(status)) => take_back(alloc, remote, file, path, Why::Refused(status)),
-        Some(other) => Ok(Answer::Left(other)),
-        None => Ok(stored),
+        Some(why) => left_unless(is_gone(&stored), why),
+        None => stored,
     }
 }
 
-/// These bytes become the content of a file that was made, which is opened by its id. Where the server refuses them it
-/// is removed again: empty, it would stand for the content of the file that the bytes are of.
+/// These bytes become the content of a file that was made, which is opened by its id.
 fn store_made<R: Remote>(
     alloc: Global,
     remote: &mut R,
     file: u64,
-    path: &[Name],
     bytes: Bytes,
 ) -> Result<Answer, AllocError>
-    ensures { IfOk result (λ answer. StoresMade R.asks remote.old file path.now bytes answer remote.new) }
+    ensures { IfOk result (λ answer. StoresMade R.asks remote.old file bytes answer remote.new) }
 {
     let opened = renew_id(alloc, remote, file);
     let stored = store_opened(alloc, remote, opened, bytes)?;
-    take_after(alloc, remote, file, path, stored)
+    Ok(made_as(stored))
 }
 
 /// Whether there is no such file.
@@ -370,7 +313,7 @@ pub fn make<R: Remote>(
 {
     let made = ask_on(alloc, remote, Deed::Make, path)?;
     match made_file(&made) {
-        Some(file) => store_made(alloc, remote, file, path, bytes),
+        Some(file) => store_made(alloc, remote, file, bytes),
         None => make_else(alloc, remote, path, bytes, made),
     }
 }
