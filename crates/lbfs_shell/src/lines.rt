@@ -13,7 +13,7 @@ use shell_walks::telling::{mistake_words, note_line};
 use shell_words::command::{Line, Start, Verb, start_of, verb_of};
 use shell_words::mistake::{Mistake, ReadError};
 use shell_words::path::copy_of;
-use shell_words::words::words_of;
+use shell_words::words::{without_blanks, words_of};
 use std::alloc::{AllocError, Global};
 
 /// What the words of a command say; none where there are none.
@@ -25,20 +25,6 @@ pub(crate) fn command_of(alloc: Global, words: &[Name]) -> Result<Option<Line>, 
         Ok(line) => Ok(line),
         Err(mistake) => Err(ReadError::Mistaken(mistake)),
     }
-}
-
-/// What a text has from its first byte on that is no blank.
-fn without_blanks(text: &[u8]) -> &[u8] {
-    let mut rest = text;
-    while let [b' ' | b'\t', more @ ..] = rest {
-        rest = more;
-    }
-    rest
-}
-
-/// Whether a line is meant to say nothing, though blanks stand before its `#`.
-fn is_remark(text: &[u8]) -> bool {
-    without_blanks(text).starts_with(b"#")
 }
 
 /// The words that a line begins with, where it isn't read: its first one, if that can be.
@@ -110,7 +96,7 @@ pub(crate) fn line_of(
         Err(error) => {
             let words = front_words(alloc, text)?;
             about.word = Name::copy_of(alloc, first_word(words.as_slice()))?;
-            about.leads = !is_remark(text) && leads_elsewhere(about.word.as_slice());
+            about.leads = leads_elsewhere(about.word.as_slice());
             return Err(error);
         }
     };

@@ -1,12 +1,12 @@
 -- Names as they are shown are read again.
-use Rattle.std.proofs.Common.{◌≡◌, ℕ, ◌+◌, ◌-◌, ◌*◌, ◌/◌, ◌%◌, ◌<◌, ◌==◌, List, [], ◌∷◌, ◌++◌, length, Bool, true, false, not, ◌&&◌, ◌||◌, cond, nat_lt, nat_le, Option, Some, None, Ok, arith, refl, sym, ap, ◌∙◌, subst, append_assoc, append-nil}
+use Rattle.std.proofs.Common.{◌≡◌, ℕ, suc, ◌+◌, ◌-◌, ◌*◌, ◌/◌, ◌%◌, ◌<◌, ◌==◌, List, [], ◌∷◌, ◌++◌, length, Bool, true, false, not, ◌&&◌, ◌||◌, cond, nat_lt, nat_le, drop, bytes_eq, Option, Some, None, Ok, arith, refl, sym, ap, ◌∙◌, subst, append_assoc, append-nil}
 use Rattle.std.specs.List.{list_all}
 use Rattle.std.proofs.lemmas.Bool.Decides.{nat_tests}
 use Rattle.shell_words.specs.declared.reading.Escape.TheVariants as escape
 use Rattle.shell_words.specs.declared.reading.Reading.{Reading}
 use Rattle.shell_words.specs.Again.{AreBytes, AreNames}
 use Rattle.shell_words.specs.Quoting.{is_text, stands, is_bare, hex_digit, is_marked, is_shown, spelled, all_spelled, quoted, shown_line}
-use Rattle.shell_words.specs.Words.{hex_value, word_so_far, stepped, ended, read_from, is_comment, words_of}
+use Rattle.shell_words.specs.Words.{hex_value, word_so_far, stepped, ended, read_from, is_comment, has_return, words_in, words_of}
 
 -- a word is under way within a quote, or not
 abbrev inside : List (List ℕ) → List ℕ → Reading
@@ -55,6 +55,10 @@ no_double false = refl
 no_back : (text : Bool) → stands text 92 ≡ false
 no_back true = refl
 no_back false = refl
+
+no_return : (text : Bool) → stands text 13 ≡ false
+no_return true = refl
+no_return false = refl
 
 no_hash : (text : Bool) → stands text 35 ≡ false
 no_hash true = refl
@@ -149,13 +153,16 @@ line_again words (name ∷ other ∷ names) h =
     ∙ line_again (words ++ name ∷ []) (other ∷ names) h.1
     ∙ ap Ok (append_assoc words (name ∷ []) (other ∷ names))
 
--- a line of names begins with no #
-first_byte : (b : ℕ) (rest : List ℕ) → (b == 35) ≡ false → is_comment (b ∷ rest) ≡ false
-first_byte b rest e = rw e refl
+-- a line of names begins with no blank, and no #
+first_byte : (b : ℕ) (rest : List ℕ) → (b == 32) ≡ false → (b == 9) ≡ false → (b == 35) ≡ false → is_comment (b ∷ rest) ≡ false
+first_byte b rest e f g = rw (e, f, g) refl
+
+said_bare : (text : Bool) (b : ℕ) (rest : List ℕ) → stands text b ≡ true → is_comment (b ∷ rest) ≡ false
+said_bare text b rest right = first_byte b rest (differ text b 32 (no_blank text) right) (differ text b 9 (no_tab text) right) (differ text b 35 (no_hash text) right)
 
 said_by : (text : Bool) (name rest : List ℕ) (bare : Bool) → is_bare text name ≡ bare → is_comment (cond bare name ((39 ∷ all_spelled text name) ++ 39 ∷ []) ++ rest) ≡ false
 said_by text [] rest true e = cc
-said_by text (b ∷ bs) rest true e = first_byte b (bs ++ rest) (differ text b 35 (no_hash text) (both (stands text b) (list_all (λ c. stands text c) bs) (both (not (length (b ∷ bs) == 0)) (list_all (λ c. stands text c) (b ∷ bs)) e).1).0)
+said_by text (b ∷ bs) rest true e = said_bare text b (bs ++ rest) (both (stands text b) (list_all (λ c. stands text c) bs) (both (not (length (b ∷ bs) == 0)) (list_all (λ c. stands text c) (b ∷ bs)) e).1).0
 said_by text name rest false e = refl
 
 said : (name rest : List ℕ) → is_comment (quoted name ++ rest) ≡ false
@@ -166,5 +173,38 @@ says_words [] = refl
 says_words (name ∷ []) = ap is_comment (sym (append-nil (quoted name))) ∙ said name []
 says_words (name ∷ other ∷ names) = said name (32 ∷ shown_line (other ∷ names))
 
+-- and ends with no carriage return
+later : (b c : ℕ) (bs : List ℕ) → has_return (b ∷ c ∷ bs) ≡ has_return (c ∷ bs)
+later b c bs =
+    let longer : suc (suc (length bs)) - 1 ≡ suc (length bs) = omega arith in
+    let shorter : suc (length bs) - 1 ≡ length bs = omega arith in
+    ap (λ n. bytes_eq (drop n (b ∷ c ∷ bs)) (13 ∷ [])) longer ∙ sym (ap (λ n. bytes_eq (drop n (c ∷ bs)) (13 ∷ [])) shorter)
+
+last_of : (xs : List ℕ) (y : ℕ) (ys : List ℕ) → has_return (xs ++ y ∷ ys) ≡ has_return (y ∷ ys)
+last_of [] y ys = refl
+last_of (b ∷ []) y ys = later b y ys
+last_of (b ∷ c ∷ bs) y ys = later b c (bs ++ y ∷ ys) ∙ last_of (c ∷ bs) y ys
+
+bare_end : (text : Bool) (bs : List ℕ) → list_all (λ b. stands text b) bs ≡ true → has_return bs ≡ false
+bare_end text [] h = refl
+bare_end text (b ∷ []) h = rw (differ text b 13 (no_return text) (both (stands text b) true h).0) refl
+bare_end text (b ∷ c ∷ bs) h = later b c bs ∙ bare_end text (c ∷ bs) (both (stands text b) (list_all (λ d. stands text d) (c ∷ bs)) h).1
+
+shown_end_by : (text : Bool) (name : List ℕ) (bare : Bool) → is_bare text name ≡ bare → has_return (cond bare name ((39 ∷ all_spelled text name) ++ 39 ∷ [])) ≡ false
+shown_end_by text name true e = bare_end text name (both (not (length name == 0)) (list_all (λ c. stands text c) name) e).1
+shown_end_by text name false e = last_of (39 ∷ all_spelled text name) 39 []
+
+behind_blank : (rest : List ℕ) → has_return rest ≡ false → has_return (32 ∷ rest) ≡ false
+behind_blank [] h = refl
+behind_blank (b ∷ bs) h = later 32 b bs ∙ h
+
+shown_end : (names : List (List ℕ)) → has_return (shown_line names) ≡ false
+shown_end [] = refl
+shown_end (name ∷ []) = shown_end_by (is_text name) name (is_bare (is_text name) name) refl
+shown_end (name ∷ other ∷ names) = last_of (quoted name) 32 (shown_line (other ∷ names)) ∙ behind_blank (shown_line (other ∷ names)) (shown_end (other ∷ names))
+
+text_again : (names : List (List ℕ)) → AreNames names → words_in (shown_line names) ≡ Ok names
+text_again names h = rw (says_words names) (line_again [] names h)
+
 pub read_again : (names : List (List ℕ)) → AreNames names → words_of (shown_line names) ≡ Ok names
-read_again names h = rw (says_words names) (line_again [] names h)
+read_again names h = rw (shown_end names) (text_again names h)

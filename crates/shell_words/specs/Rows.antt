@@ -1,9 +1,33 @@
--- Worked rows: lines that ask for help, and paths of the host from its root.
-use Rattle.std.specs.Prelude.{◌≡◌, [], ◌∷◌, Some, None, Ok, Err, false, codes, refl}
+-- Worked rows: the words of lines, lines that ask for help, and paths of the host from its root.
+use Rattle.std.specs.Prelude.{◌≡◌, ℕ, List, [], ◌∷◌, ◌++◌, Some, None, Result, Ok, Err, false, codes, map, refl}
 use Rattle.shell_words.specs.Commands.{command_of}
 use Rattle.shell_words.specs.Local.{whole_path}
+use Rattle.shell_words.specs.Words.{words_of}
 use Rattle.shell_words.specs.declared.command.Verb.TheVariants as verb
+use Rattle.shell_words.specs.declared.mistake.Mistake.{Mistake}
 use Rattle.shell_words.specs.declared.mistake.Mistake.TheVariants as mistake
+
+-- ---- lines
+
+abbrev read : List (List ℕ) → List (Result (List (List ℕ)) Mistake)
+read lines = map words_of lines
+
+-- a remark may stand behind blanks; a # elsewhere is a byte of its word
+remarks : read (codes "# cd 'x" ∷ codes "  # don't" ∷ (9 ∷ codes "#") ∷ codes "   " ∷ []) ≡ (Ok [] ∷ Ok [] ∷ Ok [] ∷ Ok [] ∷ [])
+remarks = refl
+
+no_remarks : read (codes "ls #" ∷ codes " a#b" ∷ codes "'#'" ∷ []) ≡ (Ok (codes "ls" ∷ codes "#" ∷ []) ∷ Ok (codes "a#b" ∷ []) ∷ Ok (codes "#" ∷ []) ∷ [])
+no_remarks = refl
+
+-- a carriage return (13) at the end of a line is no part of it, and one behind a backslash there no escape
+returns : read ((codes "cd a" ++ 13 ∷ []) ∷ (13 ∷ []) ∷ (codes "# x" ++ 13 ∷ []) ∷ (codes "cd 'a'" ++ 13 ∷ []) ∷ (codes "a" ++ 92 ∷ 13 ∷ []) ∷ []) ≡ (Ok (codes "cd" ∷ codes "a" ∷ []) ∷ Ok [] ∷ Ok [] ∷ Ok (codes "cd" ∷ codes "a" ∷ []) ∷ Err mistake.BadEscape ∷ [])
+returns = refl
+
+-- any other is a byte of its word, as is one that an escape gives
+no_returns : read ((codes "a" ++ 13 ∷ codes "b") ∷ (codes "a" ++ 13 ∷ 13 ∷ []) ∷ (codes "a" ++ 13 ∷ 32 ∷ []) ∷ (codes "a" ++ 92 ∷ codes "r") ∷ []) ≡ (Ok ((codes "a" ++ 13 ∷ codes "b") ∷ []) ∷ Ok ((codes "a" ++ 13 ∷ []) ∷ []) ∷ Ok ((codes "a" ++ 13 ∷ []) ∷ []) ∷ Ok ((codes "a" ++ 13 ∷ []) ∷ []) ∷ [])
+no_returns = refl
+
+-- ---- what asks for help, and paths
 
 -- put --help is help put
 pub help_of_a_command : command_of (codes "put" ∷ codes "--help" ∷ []) ≡ Ok (Some (record { verb = verb.Help; has_option = false; operands = codes "put" ∷ [] }))

@@ -1,5 +1,5 @@
 -- How a line is read into words: byte by byte.
-use Rattle.std.specs.Prelude.{ℕ, ◌+◌, ◌-◌, ◌*◌, ◌%◌, List, [], ◌∷◌, ◌++◌, Bool, ◌||◌, ◌&&◌, ◌==◌, nat_le, take, Option, Some, None, Result, Ok, Err, codes, bytes_eq, if◌then◌else◌}
+use Rattle.std.specs.Prelude.{ℕ, ◌+◌, ◌-◌, ◌*◌, ◌%◌, List, [], ◌∷◌, ◌++◌, Bool, ◌||◌, ◌&&◌, ◌==◌, nat_le, length, take, drop, Option, Some, None, Result, Ok, Err, codes, bytes_eq, if◌then◌else◌}
 use Rattle.std.specs.Char.{is_ascii_alphanumeric}
 use Rattle.shell_words.specs.declared.mistake.Mistake.{Mistake}
 use Rattle.shell_words.specs.declared.mistake.Mistake.TheVariants as mistake
@@ -122,10 +122,25 @@ abbrev pub read_from : Reading → List ℕ → Reading
 read_from r [] = r
 read_from r (b ∷ bs) = read_from (stepped r b) bs
 
--- a line that begins with # says nothing
+-- from the first byte on that is no blank
+abbrev pub without_blanks : List ℕ → List ℕ
+without_blanks [] = []
+without_blanks (b ∷ bs) = if is_blank b then without_blanks bs else b ∷ bs
+
+-- a line that begins with #, or has blanks alone before it, says nothing
 abbrev pub is_comment : List ℕ → Bool
-is_comment line = bytes_eq (take 1 line) (codes "#")
+is_comment line = bytes_eq (take 1 (without_blanks line)) (codes "#")
+
+-- a carriage return (13) that ends a line is no part of it
+abbrev pub has_return : List ℕ → Bool
+has_return line = bytes_eq (drop (length line - 1) line) (13 ∷ [])
+
+abbrev pub without_return : List ℕ → List ℕ
+without_return line = if has_return line then take (length line - 1) line else line
+
+abbrev pub words_in : List ℕ → Result (List (List ℕ)) Mistake
+words_in text = if is_comment text then Ok [] else ended (read_from nothing_read text)
 
 -- the words of a line, or what is wrong with it
 abbrev pub words_of : List ℕ → Result (List (List ℕ)) Mistake
-words_of line = if is_comment line then Ok [] else ended (read_from nothing_read line)
+words_of line = words_in (without_return line)

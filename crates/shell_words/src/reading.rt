@@ -51,7 +51,7 @@ pub struct Reading {
 }
 
 /// Whether a byte parts words.
-fn is_blank(b: u8) -> bool
+pub fn is_blank(b: u8) -> bool
     ensures { result ≡ is_blank b }
 {
     b == b' ' || b == b'\t'
