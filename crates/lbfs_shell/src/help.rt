@@ -19,6 +19,7 @@ cat PATH                   writes what is in a file
 help [COMMAND]             says this, or more of one command (COMMAND --help)
 bye                        ends the shell (so do quit and exit)
 PATH is on the server, LOCAL here; a name with blanks is quoted: 'two words'.
+An option may stand behind names; behind -- all words are names.
 ";
 
 const LS: &str = "ls [-l] [PATH]

@@ -10,9 +10,8 @@ use lb_base::items::{Items, Name};
 use shell_telling::telling::line_text;
 use shell_walks::screen::Screen;
 use shell_walks::telling::{mistake_words, note_line};
-use shell_words::command::{Line, Start, Verb, start_of, verb_of};
+use shell_words::command::{Line, Verb, verb_of, wrong_option};
 use shell_words::mistake::{Mistake, ReadError};
-use shell_words::path::copy_of;
 use shell_words::words::{without_blanks, words_of};
 use std::alloc::{AllocError, Global};
 
@@ -21,10 +20,7 @@ use std::alloc::{AllocError, Global};
 pub(crate) fn command_of(alloc: Global, words: &[Name]) -> Result<Option<Line>, ReadError>
     ensures { result ≡ Ok None → words.now ≡ [] }
 {
-    match Line::read(copy_of(alloc, words)?) {
-        Ok(line) => Ok(line),
-        Err(mistake) => Err(ReadError::Mistaken(mistake)),
-    }
+    Line::read(alloc, words)
 }
 
 /// The words that a line begins with, where it isn't read: its first one, if that can be.
@@ -46,7 +42,7 @@ fn first_word(words: &[Name]) -> &[u8] {
     }
 }
 
-/// The option that a command hasn't, where words say one.
+/// The first option that a command hasn't, where words say one.
 fn option_of(words: &[Name]) -> &[u8] {
     let [first, rest @ ..] = words else {
         return b"";
@@ -54,10 +50,9 @@ fn option_of(words: &[Name]) -> &[u8] {
     let Some(verb) = verb_of(first.as_slice()) else {
         return b"";
     };
-    match (start_of(verb, rest), rest) {
-        (Start::Option, [word, ..]) => word.as_slice(),
-        (Start::Known, [_, word, ..]) => word.as_slice(),
-        _ => b"",
+    match wrong_option(verb, rest) {
+        Some(word) => word,
+        None => b"",
     }
 }
 

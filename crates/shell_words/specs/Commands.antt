@@ -1,9 +1,9 @@
 -- What the words of a line say: a command, whether its option stands behind it, and its operands.
-use Rattle.std.specs.Prelude.{ℕ, List, [], ◌∷◌, Bool, true, false, ◌&&◌, ◌||◌, ◌==◌, nat_lt, length, take, remove, Option, Some, None, Result, Ok, Err, codes, bytes_eq, is_some, if◌then◌else◌}
-use Rattle.std.specs.List.{list_any}
+use Rattle.std.specs.Prelude.{ℕ, List, [], ◌∷◌, Bool, false, not, ◌&&◌, ◌||◌, ◌==◌, nat_lt, length, take, Option, Some, None, Result, Ok, Err, codes, bytes_eq, if◌then◌else◌}
+use Rattle.std.specs.List.{list_any, find}
+use Rattle.shell_words.specs.declared.command.Kind.{Kind}
+use Rattle.shell_words.specs.declared.command.Kind.TheVariants as kind
 use Rattle.shell_words.specs.declared.command.Line.{Line}
-use Rattle.shell_words.specs.declared.command.Start.{Start}
-use Rattle.shell_words.specs.declared.command.Start.TheVariants as start
 use Rattle.shell_words.specs.declared.command.Verb.{Verb}
 use Rattle.shell_words.specs.declared.command.Verb.TheVariants as verb
 use Rattle.shell_words.specs.declared.mistake.Mistake.{Mistake}
@@ -75,70 +75,83 @@ missing verb.Mv n = if n == 1 then mistake.NoSecondPath else mistake.NoPath
 missing v n = mistake.NoPath
 
 -- a word that begins with - is an option, unless it is - alone; -- ends them
-abbrev pub kind_of : List ℕ → Start
+abbrev pub kind_of : List ℕ → Kind
 kind_of word =
-    if bytes_eq word (codes "--") then start.Mark
-    else if nat_lt 1 (length word) && bytes_eq (take 1 word) (codes "-") then start.Option
-    else start.Operand
+    if bytes_eq word (codes "--") then kind.Mark
+    else if nat_lt 1 (length word) && bytes_eq (take 1 word) (codes "-") then kind.Option
+    else kind.Operand
 
-abbrev pub start_of : Verb → List (List ℕ) → Start
-start_of v [] = start.Nothing
-start_of v (word ∷ words) =
-    if is_option_of v word then start.Known
-    else if is_later_of v word then start.Later
-    else kind_of word
+-- behind -- all words are operands
+abbrev pub kind_in : (is_over : Bool) → List ℕ → Kind
+kind_in is_over word = if is_over then kind.Operand else kind_of word
 
--- the operands, behind the option if it was met
-abbrev pub operands_at : Start → List (List ℕ) → Result (List (List ℕ)) Mistake
-operands_at start.Nothing words = Ok words
-operands_at start.Operand words = Ok words
-operands_at start.Mark words = Ok (remove words 0)
-operands_at start.Later words = Err mistake.NoVersions
-operands_at start.Option words = Err mistake.BadOption
-operands_at start.Known words = Err mistake.BadOption
+-- the options among the words behind a command: none stands behind --
+abbrev pub options_at : Kind → (word : List ℕ) → (later : List (List ℕ)) → List (List ℕ)
+options_at kind.Mark word later = []
+options_at kind.Option word later = word ∷ later
+options_at kind.Operand word later = later
+
+abbrev pub options_of : List (List ℕ) → List (List ℕ)
+options_of [] = []
+options_of (word ∷ words) = options_at (kind_of word) word (options_of words)
+
+-- and the operands, which all words behind -- are
+abbrev pub operands_at : Kind → (word : List ℕ) → (words later : List (List ℕ)) → List (List ℕ)
+operands_at kind.Mark word words later = words
+operands_at kind.Option word words later = later
+operands_at kind.Operand word words later = word ∷ later
+
+abbrev pub operands_of : List (List ℕ) → List (List ℕ)
+operands_of [] = []
+operands_of (word ∷ words) = operands_at (kind_of word) word words (operands_of words)
+
+-- the first option that the command hasn't
+abbrev pub wrong_option : Verb → List (List ℕ) → Option (List ℕ)
+wrong_option v words = find (λ word. not (is_option_of v word)) (options_of words)
+
+-- what is said of it
+abbrev pub refused : Verb → List ℕ → Mistake
+refused v word = if is_later_of v word then mistake.NoVersions else mistake.BadOption
 
 -- an empty word names nothing
 abbrev pub is_nothing : List ℕ → Bool
 is_nothing word = length word == 0
 
-abbrev pub counted : Verb → (has_option : Bool) → Result (List (List ℕ)) Mistake → Result Line Mistake
-counted v o (Err m) = Err m
-counted v o (Ok operands) =
+-- the operands are as many as the command takes
+abbrev pub counted : Verb → (has_option : Bool) → (operands : List (List ℕ)) → Result Line Mistake
+counted v o operands =
     if nat_lt (length operands) (least_of v) then Err (missing v (length operands))
     else if nat_lt (most_of v) (length operands) then Err mistake.TooMany
     else if list_any is_nothing operands then Err mistake.NoName
     else Ok (record { verb = v; has_option = o; operands = operands })
 
-abbrev pub line_at : Verb → Start → List (List ℕ) → Result Line Mistake
-line_at v start.Known words = counted v true (operands_at (start_of v (remove words 0)) (remove words 0))
-line_at v s words = counted v false (operands_at s words)
+-- the command's option may stand more than once
+abbrev pub has_options : List (List ℕ) → Bool
+has_options words = not (length (options_of words) == 0)
 
--- what is said behind a command
-abbrev pub line_of : Option Verb → List (List ℕ) → Result Line Mistake
-line_of None words = Err mistake.Unknown
-line_of (Some v) words = line_at v (start_of v words) words
+abbrev pub line_at : Verb → (wrong : Option (List ℕ)) → List (List ℕ) → Result Line Mistake
+line_at v (Some word) words = Err (refused v word)
+line_at v None words = counted v (has_options words) (operands_of words)
+
+-- --help alone behind a command
+abbrev pub asks_help : List (List ℕ) → Bool
+asks_help (word ∷ []) = bytes_eq word (codes "--help")
+asks_help words = false
+
+-- that is help of this command
+abbrev pub help_of : List ℕ → Line
+help_of command = record { verb = verb.Help; has_option = false; operands = command ∷ [] }
+
+-- what a command's word and the words behind it say
+abbrev pub line_of : Option Verb → (command : List ℕ) → List (List ℕ) → Result Line Mistake
+line_of None command words = Err mistake.Unknown
+line_of (Some v) command words = if asks_help words then Ok (help_of command) else line_at v (wrong_option v words) words
 
 abbrev pub some_line : Result Line Mistake → Result (Option Line) Mistake
 some_line (Ok l) = Ok (Some l)
 some_line (Err m) = Err m
 
--- the command that words begin with
-abbrev pub first_verb : List (List ℕ) → Option Verb
-first_verb [] = None
-first_verb (word ∷ words) = verb_of word
-
--- a command, and behind it --help alone
-abbrev pub asks_help : List (List ℕ) → Bool
-asks_help (word ∷ option ∷ []) = is_some (verb_of word) && bytes_eq option (codes "--help")
-asks_help words = false
-
--- that is help of this command
-abbrev pub help_of : List (List ℕ) → Line
-help_of words = record { verb = verb.Help; has_option = false; operands = remove words 1 }
-
 -- what the words of a line say: nothing where there are none
 abbrev pub command_of : List (List ℕ) → Result (Option Line) Mistake
-command_of words =
-    if length words == 0 then Ok None
-    else if asks_help words then Ok (Some (help_of words))
-    else some_line (line_of (first_verb words) (remove words 0))
+command_of [] = Ok None
+command_of (command ∷ words) = some_line (line_of (verb_of command) command words)

@@ -1,13 +1,15 @@
 //! The commands of a shell: `command_of` of `specs/Commands.antt`.
 
-ghost use Rattle.std.specs.Prelude.{◌≡◌, ◌<◌, length};
+ghost use Rattle.std.specs.Prelude.{◌≡◌, IfOk, option_copied};
 ghost use Rattle.std.specs.List.{list_any};
-ghost use Rattle.shell_words.specs.Commands.{is_nothing, verb_of, is_option_of, is_later_of, least_of, most_of, missing, kind_of, start_of, operands_at, counted, line_at, line_of};
-ghost use Rattle.shell_words.specs.Commands.{some_line, first_verb, asks_help, help_of, command_of};
+ghost use Rattle.shell_words.specs.Commands.{is_nothing, verb_of, is_option_of, is_later_of, least_of, most_of, missing, kind_of, kind_in, has_options, operands_of, wrong_option, refused, counted};
+ghost use Rattle.shell_words.specs.Commands.{line_at, asks_help, help_of, line_of, command_of};
+ghost use Rattle.shell_words.specs.Giving.{Gives};
 
-use crate::mistake::Mistake;
+use crate::mistake::{Mistake, ReadError};
 use command_text::words::is;
 use lb_base::items::{Items, Name};
+use std::alloc::{AllocError, Global};
 
 /// A command.
 #[derive(Clone, Copy)]
@@ -48,24 +50,18 @@ pub enum Verb {
 #[derive(Drop)]
 pub struct Line {
     pub verb: Verb,
-    /// Whether the command's option stands behind it.
+    /// Whether the command's option stands among its words.
     pub has_option: bool,
-    /// The words behind that, as many as the command takes.
+    /// The others, as many as the command takes.
     pub operands: Items<Name>,
 }
 
-/// With what words begin.
+/// What a word behind a command is, where no `--` stands before it.
 #[derive(Clone, Copy)]
-pub enum Start {
-    /// There is none.
-    Nothing,
-    /// The command's option.
-    Known,
-    /// `--`, behind which no option stands.
+pub enum Kind {
+    /// `--`, behind which all words are operands.
     Mark,
-    /// An option that the command is to have.
-    Later,
-    /// An option that the command hasn't.
+    /// An option, of this command or not.
     Option,
     /// An operand.
     Operand,
@@ -136,6 +132,17 @@ impl Verb {
         }
     }
 
+    /// What is wrong with an option that it hasn't.
+    fn refused(self, word: &[u8]) -> Mistake
+        ensures { result ≡ refused self word.now }
+    {
+        if self.awaits(word) {
+            Mistake::NoVersions
+        } else {
+            Mistake::BadOption
+        }
+    }
+
     /// How many operands it has at least.
     fn least(self) -> usize
         ensures { result ≡ least_of self }
@@ -172,52 +179,76 @@ fn missing(verb: Verb, count: usize) -> Mistake
     }
 }
 
-/// What a word is that isn't the command's option.
-fn kind_of(word: &[u8]) -> Start
+/// What a word is.
+fn kind_of(word: &[u8]) -> Kind
     ensures { result ≡ kind_of word.now }
 {
     if is(word, b"--") {
-        Start::Mark
+        Kind::Mark
     } else if word.len() > 1 && word.starts_with(b"-") {
-        Start::Option
+        Kind::Option
     } else {
-        Start::Operand
+        Kind::Operand
     }
 }
 
-/// With what words begin behind a command.
-pub fn start_of(verb: Verb, words: &[Name]) -> Start
-    ensures { result ≡ start_of verb words.now }
+/// What a word is, where `--` may stand before it.
+fn kind_in(is_over: bool, word: &[u8]) -> Kind
+    ensures { result ≡ kind_in is_over word.now }
 {
-    match words.first() {
-        None => Start::Nothing,
-        Some(word) => {
-            if verb.has(word.as_slice()) {
-                Start::Known
-            } else if verb.awaits(word.as_slice()) {
-                Start::Later
-            } else {
-                kind_of(word.as_slice())
-            }
-        }
+    if is_over {
+        Kind::Operand
+    } else {
+        kind_of(word)
     }
 }
 
-/// The operands among words that begin so.
-fn operands_at(start: Start, mut words: Items<Name>) -> Result<Items<Name>, Mistake>
-    ensures { result ≡ operands_at start words }
+/// The first option among the words behind a command that it hasn't, if there is one.
+pub fn wrong_option(verb: Verb, words: &[Name]) -> Option<&[u8]>
+    ensures { option_copied result ≡ wrong_option verb words.now }
 {
-    match start {
-        Start::Nothing | Start::Operand => Ok(words),
-        Start::Mark => {
-            if !words.is_empty() {
-                drop(words.remove(0));
+    for word in words {
+        match kind_of(word.as_slice()) {
+            Kind::Mark => return None,
+            Kind::Option => {
+                if !verb.has(word.as_slice()) {
+                    return Some(word.as_slice());
+                }
             }
-            Ok(words)
+            Kind::Operand => {}
         }
-        Start::Later => Err(Mistake::NoVersions),
-        Start::Option | Start::Known => Err(Mistake::BadOption),
     }
+    None
+}
+
+/// Whether there is an option among the words behind a command.
+fn has_options(words: &[Name]) -> bool
+    ensures { result ≡ has_options words.now }
+{
+    for word in words {
+        match kind_of(word.as_slice()) {
+            Kind::Mark => return false,
+            Kind::Option => return true,
+            Kind::Operand => {}
+        }
+    }
+    false
+}
+
+/// The operands among the words behind a command.
+fn operands_of(alloc: Global, words: &[Name]) -> Result<Items<Name>, AllocError>
+    ensures { IfOk result (λ operands. operands ≡ operands_of words.now) }
+{
+    let mut operands = Items::new(alloc);
+    let mut is_over = false;
+    for word in words {
+        match kind_in(is_over, word.as_slice()) {
+            Kind::Mark => is_over = true,
+            Kind::Option => {}
+            Kind::Operand => operands.push(word.try_clone(alloc)?)?,
+        }
+    }
+    Ok(operands)
 }
 
 /// Whether there is a word without a byte.
@@ -233,116 +264,88 @@ fn has_empty(words: &[Name]) -> bool
 }
 
 /// A line with these operands, where they are as many as the command takes, and each names something.
-fn counted(
-    verb: Verb,
-    has_option: bool,
-    operands: Result<Items<Name>, Mistake>,
-) -> Result<Line, Mistake>
+fn counted(verb: Verb, has_option: bool, operands: Items<Name>) -> Result<Line, Mistake>
     ensures { result ≡ counted verb has_option operands }
 {
-    match operands {
-        Ok(operands) => {
-            if operands.len() < verb.least() {
-                Err(missing(verb, operands.len()))
-            } else if verb.most() < operands.len() {
-                Err(Mistake::TooMany)
-            } else if has_empty(operands.as_slice()) {
-                Err(Mistake::NoName)
-            } else {
-                Ok(Line {
-                    verb,
-                    has_option,
-                    operands,
-                })
-            }
-        }
-        Err(mistake) => Err(mistake),
+    if operands.len() < verb.least() {
+        Err(missing(verb, operands.len()))
+    } else if verb.most() < operands.len() {
+        Err(Mistake::TooMany)
+    } else if has_empty(operands.as_slice()) {
+        Err(Mistake::NoName)
+    } else {
+        Ok(Line {
+            verb,
+            has_option,
+            operands,
+        })
+    }
+}
+
+/// What words say behind a command that has all of their options.
+fn said(alloc: Global, verb: Verb, words: &[Name]) -> Result<Line, ReadError>
+    ensures { Gives result (line_at verb None words.now) }
+{
+    let operands = operands_of(alloc, words)?;
+    match counted(verb, has_options(words), operands) {
+        Ok(line) => Ok(line),
+        Err(mistake) => Err(ReadError::Mistaken(mistake)),
     }
 }
 
 /// What words say behind a command.
-fn line_at(verb: Verb, mut words: Items<Name>) -> Result<Line, Mistake>
-    ensures { result ≡ line_at verb (start_of verb words) words }
+fn line_at(alloc: Global, verb: Verb, words: &[Name]) -> Result<Line, ReadError>
+    ensures { Gives result (line_at verb (wrong_option verb words.now) words.now) }
 {
-    match start_of(verb, words.as_slice()) {
-        Start::Known => {
-            if !words.is_empty() {
-                drop(words.remove(0));
-            }
-            let start = start_of(verb, words.as_slice());
-            counted(verb, true, operands_at(start, words))
-        }
-        start => counted(verb, false, operands_at(start, words)),
+    match wrong_option(verb, words) {
+        Some(word) => Err(ReadError::Mistaken(verb.refused(word))),
+        None => said(alloc, verb, words),
     }
 }
 
-/// What words say behind a command, if there was one.
-fn line_of(verb: Option<Verb>, words: Items<Name>) -> Result<Line, Mistake>
-    ensures { result ≡ line_of verb words }
-{
-    match verb {
-        Some(verb) => line_at(verb, words),
-        None => Err(Mistake::Unknown),
-    }
-}
-
-/// A line that is there.
-fn some_line(line: Result<Line, Mistake>) -> Result<Option<Line>, Mistake>
-    ensures { result ≡ some_line line }
-{
-    match line {
-        Ok(line) => Ok(Some(line)),
-        Err(mistake) => Err(mistake),
-    }
-}
-
-/// The command that words begin with.
-fn first_verb(words: &[Name]) -> Option<Verb>
-    ensures { result ≡ first_verb words.now }
-{
-    match words.first() {
-        Some(word) => verb_of(word.as_slice()),
-        None => None,
-    }
-}
-
-/// Whether words ask what a command does: `put --help`.
+/// Whether words behind a command ask what it does: `--help`.
 fn asks_help(words: &[Name]) -> bool
     ensures { result ≡ asks_help words.now }
 {
     match words {
-        [word, option] => { verb_of(word.as_slice()).is_some() && is(option.as_slice(), b"--help") }
+        [word] => is(word.as_slice(), b"--help"),
         _ => false,
     }
 }
 
-/// `help`, of the first of two words.
-fn help_of(mut words: Items<Name>) -> Line
-    ensures { result ≡ help_of words }
+/// `help`, of this command.
+fn help_of(alloc: Global, command: &[u8]) -> Result<Line, AllocError>
+    ensures { IfOk result (λ line. line ≡ help_of command.now) }
 {
-    if words.len() > 1 {
-        drop(words.remove(1));
-    }
-    Line {
+    let mut operands = Items::new(alloc);
+    operands.push(Name::copy_of(alloc, command)?)?;
+    Ok(Line {
         verb: Verb::Help,
         has_option: false,
-        operands: words,
+        operands,
+    })
+}
+
+/// What a command's word and the words behind it say.
+fn line_of(alloc: Global, command: &[u8], words: &[Name]) -> Result<Line, ReadError>
+    ensures { Gives result (line_of (verb_of command.now) command.now words.now) }
+{
+    match verb_of(command) {
+        None => Err(ReadError::Mistaken(Mistake::Unknown)),
+        Some(_) if asks_help(words) => Ok(help_of(alloc, command)?),
+        Some(verb) => line_at(alloc, verb, words),
     }
 }
 
 impl Line {
-    /// What the words of a line say; nothing where there are none. It takes no memory.
-    pub fn read(mut words: Items<Name>) -> Result<Option<Line>, Mistake>
-        ensures { result ≡ command_of words }
+    /// What the words of a line say; nothing where there are none. An option may stand anywhere before `--`. The
+    /// error is the mistake that is in them, the first option that the command hasn't before all others, or `Memory`.
+    pub fn read(alloc: Global, words: &[Name]) -> Result<Option<Line>, ReadError>
+        ensures { Gives result (command_of words.now) }
     {
-        if words.len() == 0 {
-            return Ok(None);
+        match words {
+            [command, rest @ ..] => Ok(Some(line_of(alloc, command.as_slice(), rest)?)),
+            [] => Ok(None),
         }
-        if asks_help(words.as_slice()) {
-            return Ok(Some(help_of(words)));
-        }
-        let verb = first_verb(words.as_slice());
-        drop(words.remove(0));
-        some_line(line_of(verb, words))
     }
 }
