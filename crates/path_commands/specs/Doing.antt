@@ -8,6 +8,7 @@ use Rattle.shell_walks.specs.Asking.{command_on, rename_of, AsksOn}
 use Rattle.shell_walks.specs.Fetched.{Fetched}
 use Rattle.shell_walks.specs.Fetching.{Cats}
 use Rattle.shell_walks.specs.Removing.{RemovesAll as GoesWith}
+use Rattle.shell_walks.specs.Storing.{is_only_made}
 use Rattle.shell_walks.specs.Telling.{done_told, fine, is_off, left_text, long_line, names_told, note_line, notes, path_text, refused_told, removed_told, stat_told, why_of, why_text}
 use Rattle.shell_walks.specs.declared.asking.Deed.{Deed}
 use Rattle.shell_walks.specs.declared.asking.Deed.TheVariants as deed
@@ -42,6 +43,11 @@ pub record RemovesFile {R : Type 0} (asks : R → Command → Answer → R → T
 abbrev pub is_dir_told : Answer → Bool
 is_dir_told (answer.Seen seen) = seen.is_dir
 is_dir_told a = false
+
+-- whether it was told to be a file in which nobody stored yet
+abbrev pub is_unstored_told : Answer → Bool
+is_unstored_told (answer.Seen seen) = is_only_made seen
+is_unstored_told a = false
 
 -- NFS3ERR_NOENT
 abbrev pub is_missing_for : Why → Bool
@@ -228,36 +234,42 @@ pub record Renames {R : Type 0} (asks : R → Command → Answer → R → Type 
   pub goes_on : TellsRename asks between (is_refused answer) from to answer told new
 
 -- the first is at fault where nothing has it, else that no directory has the second
-abbrev pub new_told : (from to : List (List ℕ)) → (looked back : Answer) → Told
-new_told from to looked (answer.Seen seen) = directory_told to looked
-new_told from to looked back = refused_told from (why_of back)
-
-abbrev pub RenamesNew : {R : Type 0} → (asks : R → Command → Answer → R → Type 0) → R → (may : Bool) → (from to : List (List ℕ)) → (looked back : Answer) → Told → R → Type 0
-RenamesNew asks old true from to looked back told new = Renames asks old from to told new
-RenamesNew asks old false from to looked back told new = (new ≡ old) × (told ≡ new_told from to looked back)
+abbrev pub new_told : (from to : List (List ℕ)) → (first second : Answer) → Told
+new_told from to (answer.Seen seen) second = directory_told to second
+new_told from to first second = refused_told from (why_of first)
 
 -- a directory's new name: a directory gets it, and that where nothing has it
-pub record MovesNew {R : Type 0} (asks : R → Command → Answer → R → Type 0) (old : R) (from to : List (List ℕ)) (looked : Answer) (told : Told) (new : R) : Type 0 where
-  pub back : Answer
-  pub between : R
-  pub looks : AsksOn asks old (command_on deed.Look from) back between
-  pub goes_on : RenamesNew asks between (is_dir_told back && is_missing looked) from to looked back told new
+abbrev pub RenamesNew : {R : Type 0} → (asks : R → Command → Answer → R → Type 0) → R → (may : Bool) → (from to : List (List ℕ)) → (first second : Answer) → Told → R → Type 0
+RenamesNew asks old true from to first second told new = Renames asks old from to told new
+RenamesNew asks old false from to first second told new = (new ≡ old) × (told ≡ new_told from to first second)
 
-abbrev pub MovesAs : {R : Type 0} → (asks : R → Command → Answer → R → Type 0) → R → (is_new_dir : Bool) → (from to : List (List ℕ)) → Answer → Told → R → Type 0
-MovesAs asks old true from to looked told new = MovesNew asks old from to looked told new
-MovesAs asks old false from to looked told new = Renames asks old from (place_of to from (is_dir_told looked)) told new
+abbrev pub MovesAs : {R : Type 0} → (asks : R → Command → Answer → R → Type 0) → R → (is_new_dir : Bool) → (from to : List (List ℕ)) → (first second : Answer) → Told → R → Type 0
+MovesAs asks old true from to first second told new = RenamesNew asks old (is_dir_told first && is_missing second) from to first second told new
+MovesAs asks old false from to first second told new = Renames asks old from (place_of to from (is_dir_told second)) told new
 
 -- where it isn't known what has the second path nothing is renamed
-abbrev pub MovesIf : {R : Type 0} → (asks : R → Command → Answer → R → Type 0) → R → (is_known wants_dir : Bool) → (from to : List (List ℕ)) → Answer → Told → R → Type 0
-MovesIf asks old true wants from to looked told new = MovesAs asks old (wants && not (is_dir_told looked)) from to looked told new
-MovesIf asks old false wants from to looked told new = (new ≡ old) × (told ≡ refused_told to (why_of looked))
+abbrev pub MovesIf : {R : Type 0} → (asks : R → Command → Answer → R → Type 0) → R → (is_known wants_dir : Bool) → (from to : List (List ℕ)) → (first second : Answer) → Told → R → Type 0
+MovesIf asks old true wants from to first second told new = MovesAs asks old (wants && not (is_dir_told second)) from to first second told new
+MovesIf asks old false wants from to first second told new = (new ≡ old) × (told ≡ refused_told to (why_of second))
 
 -- into the directory that has the second path, where one has it; one may be wanted there (a slash ends its word)
-pub record Moves {R : Type 0} (asks : R → Command → Answer → R → Type 0) (old : R) (wants_dir : Bool) (from to : List (List ℕ)) (told : Told) (new : R) : Type 0 where
-  pub looked : Answer
+pub record MovesOn {R : Type 0} (asks : R → Command → Answer → R → Type 0) (old : R) (wants_dir : Bool) (from to : List (List ℕ)) (first : Answer) (told : Told) (new : R) : Type 0 where
+  pub second : Answer
   pub between : R
-  pub looks : AsksOn asks old (command_on deed.Look to) looked between
-  pub goes_on : MovesIf asks between (is_known looked) wants_dir from to looked told new
+  pub looks : AsksOn asks old (command_on deed.Look to) second between
+  pub goes_on : MovesIf asks between (is_known second) wants_dir from to first second told new
+
+-- a file in which nobody stored yet stays where it is: somebody puts it, or its put was stopped, and it would go over a good one
+abbrev pub MovesUnless : {R : Type 0} → (asks : R → Command → Answer → R → Type 0) → R → (is_unstored wants_dir : Bool) → (from to : List (List ℕ)) → (first : Answer) → Told → R → Type 0
+MovesUnless asks old true wants from to first told new = (new ≡ old) × (told ≡ refused_told from why.Unstored)
+MovesUnless asks old false wants from to first told new = MovesOn asks old wants from to first told new
+
+-- what has the first path is looked at, and then what has the second
+pub record Moves {R : Type 0} (asks : R → Command → Answer → R → Type 0) (old : R) (wants_dir : Bool) (from to : List (List ℕ)) (told : Told) (new : R) : Type 0 where
+  pub first : Answer
+  pub between : R
+  pub looks : AsksOn asks old (command_on deed.Look from) first between
+  pub goes_on : MovesUnless asks between (is_unstored_told first) wants_dir from to first told new
 
 -- ---- a command on one path
 

@@ -6,7 +6,7 @@ use Rattle.shell_walks.specs.declared.remote.Seen.{Seen}
 use Rattle.shell_walks.specs.declared.remote.Why.TheVariants as why
 use Rattle.path_commands.specs.Placing.{no_place, place_news, placed}
 use Rattle.path_commands.specs.declared.placing.Made.TheVariants as made
-use Rattle.path_commands.specs.Doing.{at_fault, directory_told, is_file, is_free, is_known, new_told, way_told, unmade_of, with_left, with_long}
+use Rattle.path_commands.specs.Doing.{at_fault, directory_told, is_file, is_free, is_known, is_unstored_told, new_told, way_told, unmade_of, with_left, with_long}
 
 abbrev a_file : Seen
 a_file = record { id = 5; is_dir = false; version = 2; len = 6 }
@@ -48,7 +48,7 @@ pub none_is_left : with_left 0 (fine (codes "a\n")) ≡ fine (codes "a\n")
 none_is_left = refl
 
 -- a file gets no new name that ends with a slash: no directory has that, or nothing has the first
-pub no_directory_has_it : new_told (codes "f" ∷ []) (codes "nw" ∷ []) (answer.Failed (why.Refused 2)) (answer.Seen a_file) ≡ notes (codes "/nw: no such file or directory\n")
+pub no_directory_has_it : new_told (codes "f" ∷ []) (codes "nw" ∷ []) (answer.Seen a_file) (answer.Failed (why.Refused 2)) ≡ notes (codes "/nw: no such file or directory\n")
 no_directory_has_it = refl
 
 pub a_file_has_it : new_told (codes "f" ∷ []) (codes "g" ∷ []) (answer.Seen a_file) (answer.Seen a_file) ≡ notes (codes "/g: not a directory\n")
@@ -84,3 +84,16 @@ what_isnt_made_is_at_fault = refl
 -- NFS3ERR_NOTEMPTY: why it was refused is said, also where the connection is lost behind it
 pub it_is_told_without_a_look : at_fault (is_free (answer.Failed why.Cut)) (codes "a" ∷ []) (codes "b" ∷ []) (answer.Failed (why.Refused 66)) (answer.Failed why.Cut) ≡ notes (codes "/b: the directory isn't empty\n")
 it_is_told_without_a_look = refl
+
+-- a file that was made stays until somebody stores in it, be it no bytes; a directory's first version is 1, too
+pub it_was_only_made : is_unstored_told (answer.Seen (record a_file { version = 1; len = 0 })) ≡ true
+it_was_only_made = refl
+
+pub it_was_stored_empty : is_unstored_told (answer.Seen (record a_file { len = 0 })) ≡ false
+it_was_stored_empty = refl
+
+pub a_new_directory_may_go : is_unstored_told (answer.Seen (record a_file { is_dir = true; version = 1; len = 0 })) ≡ false
+a_new_directory_may_go = refl
+
+pub a_look_that_failed_tells_none : is_unstored_told (answer.Failed why.Cut) ≡ false
+a_look_that_failed_tells_none = refl

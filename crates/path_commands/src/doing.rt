@@ -4,10 +4,10 @@ ghost use Rattle.std.specs.Prelude.{◌≡◌, ◌∷◌, ◌++◌, [], IfOk, On
 ghost use Rattle.shell_walks.specs.Asking.{command_on, AsksOn};
 ghost use Rattle.shell_walks.specs.Telling.{left_text, notes};
 ghost use Rattle.shell_walks.specs.declared.asking.Deed.TheVariants as deeds;
-ghost use Rattle.path_commands.specs.Doing.{Does, Stats, RemovesFile, is_dir_told, is_missing, is_known, made_told, directory_told, file_text, file_told, LooksAt, is_file, ListsFile};
+ghost use Rattle.path_commands.specs.Doing.{Does, Stats, RemovesFile, is_dir_told, is_unstored_told, is_missing, is_known, made_told, directory_told, file_text, file_told, LooksAt, is_file, ListsFile};
 ghost use Rattle.path_commands.specs.Doing.{with_long, is_answered, with_left, ListsLong, ListsOn, Lists, is_there, unmade_of, MakesAll, way_told, WayIf, LooksAbove, MakesWay};
 ghost use Rattle.path_commands.specs.Doing.{RemovesAll, last_of, named_in, place_of, is_refused, is_free, at_fault, LooksBack};
-ghost use Rattle.path_commands.specs.Doing.{TellsRename, Renames, new_told, RenamesNew, MovesNew, MovesAs, MovesIf, Moves, OnPath};
+ghost use Rattle.path_commands.specs.Doing.{TellsRename, Renames, new_told, RenamesNew, MovesAs, MovesIf, MovesOn, MovesUnless, Moves, OnPath};
 
 use command_text::path::Path;
 use lb_base::items::{Bytes, Items, Name};
@@ -15,6 +15,7 @@ use shell_walks::asking::{Deed, ask_on, ask_rename};
 use shell_walks::fetching::cat;
 use shell_walks::remote::{Answer, Remote, Seen, Why};
 use shell_walks::removing::{Gone, remove_all};
+use shell_walks::storing::is_only_made;
 use shell_walks::tasks::longer;
 use shell_walks::telling::{
     done_told, is_off, left_text, long_line, names_told, path_line, path_text, put_why,
@@ -57,6 +58,16 @@ pub fn is_dir_told(answer: &Answer) -> bool
 {
     match answer {
         Answer::Seen(seen) => seen.is_dir,
+        _ => false,
+    }
+}
+
+/// Whether a file was told in which nobody stored yet.
+fn is_unstored_told(answer: &Answer) -> bool
+    ensures { result ≡ is_unstored_told answer.now }
+{
+    match answer {
+        Answer::Seen(seen) => is_only_made(*seen),
         _ => false,
     }
 }
@@ -510,66 +521,54 @@ fn new_told(
     alloc: Global,
     from: &[Name],
     to: &[Name],
-    looked: &Answer,
-    back: &Answer,
+    first: &Answer,
+    second: &Answer,
 ) -> Result<Told, AllocError>
-    ensures { IfOk result (λ told. told ≡ new_told from.now to.now looked.now back.now) }
+    ensures { IfOk result (λ told. told ≡ new_told from.now to.now first.now second.now) }
 {
-    match back {
-        Answer::Seen(_) => directory_told(alloc, to, looked),
-        back => refused_told(alloc, from, why_of(back)),
+    match first {
+        Answer::Seen(_) => directory_told(alloc, to, second),
+        first => refused_told(alloc, from, why_of(first)),
     }
 }
 
-/// It is renamed, where it may be.
+/// A directory gets a new name, where it may.
 fn rename_new<R: Remote>(
     alloc: Global,
     remote: &mut R,
     may: bool,
     from: &[Name],
     to: &[Name],
-    looked: &Answer,
-    back: &Answer,
+    first: &Answer,
+    second: &Answer,
 ) -> Result<Told, AllocError>
-    ensures { IfOk result (λ told. RenamesNew R.asks remote.old may from.now to.now looked.now back.now told remote.new) }
+    ensures { IfOk result (λ told. RenamesNew R.asks remote.old may from.now to.now first.now second.now told remote.new) }
 {
     if may {
         rename(alloc, remote, from, to)
     } else {
-        new_told(alloc, from, to, looked, back)
+        new_told(alloc, from, to, first, second)
     }
 }
 
-/// A directory gets a new name that nothing has. A file gets none where a directory is wanted.
-fn move_new<R: Remote>(
-    alloc: Global,
-    remote: &mut R,
-    from: &[Name],
-    to: &[Name],
-    looked: &Answer,
-) -> Result<Told, AllocError>
-    ensures { IfOk result (λ told. MovesNew R.asks remote.old from.now to.now looked.now told remote.new) }
-{
-    let back = ask_on(alloc, remote, Deed::Look, from)?;
-    let may = is_dir_told(&back) && is_missing(looked);
-    rename_new(alloc, remote, may, from, to, looked, &back)
-}
-
-/// It goes into the directory that has the second path, or gets that path.
+/// It goes into the directory that has the second path, or gets that path. Where a new directory is wanted a
+/// directory gets it that nothing has, and a file gets none.
 fn move_as<R: Remote>(
     alloc: Global,
     remote: &mut R,
     is_new_dir: bool,
     from: &[Name],
     to: Path,
-    looked: &Answer,
+    first: &Answer,
+    second: &Answer,
 ) -> Result<Told, AllocError>
-    ensures { IfOk result (λ told. MovesAs R.asks remote.old is_new_dir from.now to looked.now told remote.new) }
+    ensures { IfOk result (λ told. MovesAs R.asks remote.old is_new_dir from.now to first.now second.now told remote.new) }
 {
     if is_new_dir {
-        move_new(alloc, remote, from, to.as_slice(), looked)
+        let may = is_dir_told(first) && is_missing(second);
+        rename_new(alloc, remote, may, from, to.as_slice(), first, second)
     } else {
-        let to = place_of(alloc, to, from, is_dir_told(looked))?;
+        let to = place_of(alloc, to, from, is_dir_told(second))?;
         rename(alloc, remote, from, to.as_slice())
     }
 }
@@ -578,24 +577,59 @@ fn move_as<R: Remote>(
 fn move_if<R: Remote>(
     alloc: Global,
     remote: &mut R,
-    is_known: bool,
     wants_dir: bool,
     from: &[Name],
     to: Path,
-    looked: &Answer,
+    first: &Answer,
+    second: &Answer,
 ) -> Result<Told, AllocError>
-    ensures { IfOk result (λ told. MovesIf R.asks remote.old is_known wants_dir from.now to looked.now told remote.new) }
+    ensures { IfOk result (λ told. MovesIf R.asks remote.old (is_known second.now) wants_dir from.now to first.now second.now told remote.new) }
 {
-    if is_known {
-        let is_new_dir = wants_dir && !is_dir_told(looked);
-        move_as(alloc, remote, is_new_dir, from, to, looked)
+    if is_known(second) {
+        let is_new_dir = wants_dir && !is_dir_told(second);
+        move_as(alloc, remote, is_new_dir, from, to, first, second)
     } else {
-        refused_told(alloc, to.as_slice(), why_of(looked))
+        refused_told(alloc, to.as_slice(), why_of(second))
     }
 }
 
-/// `mv`: into the directory that has the second path, where one has it. One may be wanted there: then a file gets
-/// no other name.
+/// What may be renamed goes into the directory that has the second path, where one has it. One may be wanted there:
+/// then a file gets no other name.
+fn move_on<R: Remote>(
+    alloc: Global,
+    remote: &mut R,
+    wants_dir: bool,
+    from: &[Name],
+    to: Path,
+    first: &Answer,
+) -> Result<Told, AllocError>
+    ensures { IfOk result (λ told. MovesOn R.asks remote.old wants_dir from.now to first.now told remote.new) }
+{
+    let second = ask_on(alloc, remote, Deed::Look, to.as_slice())?;
+    move_if(alloc, remote, wants_dir, from, to, first, &second)
+}
+
+/// A file in which nobody stored yet stays where it is.
+fn move_unless<R: Remote>(
+    alloc: Global,
+    remote: &mut R,
+    is_unstored: bool,
+    wants_dir: bool,
+    from: &[Name],
+    to: Path,
+    first: &Answer,
+) -> Result<Told, AllocError>
+    ensures { IfOk result (λ told. MovesUnless R.asks remote.old is_unstored wants_dir from.now to first.now told remote.new) }
+{
+    if is_unstored {
+        refused_told(alloc, from, Why::Unstored)
+    } else {
+        move_on(alloc, remote, wants_dir, from, to, first)
+    }
+}
+
+/// `mv`: what has the first path is looked at. A file in which nobody stored yet would go over a good one, so it
+/// stays.
 pub fn move_to<R: Remote>(
     alloc: Global,
     remote: &mut R,
@@ -605,16 +639,9 @@ pub fn move_to<R: Remote>(
 ) -> Result<Told, AllocError>
     ensures { IfOk result (λ told. Moves R.asks remote.old wants_dir from.now to told remote.new) }
 {
-    let looked = ask_on(alloc, remote, Deed::Look, to.as_slice())?;
-    move_if(
-        alloc,
-        remote,
-        is_known(&looked),
-        wants_dir,
-        from,
-        to,
-        &looked,
-    )
+    let first = ask_on(alloc, remote, Deed::Look, from)?;
+    let is_unstored = is_unstored_told(&first);
+    move_unless(alloc, remote, is_unstored, wants_dir, from, to, &first)
 }
 
 /// A command on one path of the server.
