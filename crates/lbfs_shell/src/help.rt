@@ -82,7 +82,8 @@ Removes an empty directory.
 const MV: &str = "mv PATH PATH
 Gives a file or a directory another name: the second PATH, or its own in it,
 where that is a directory. There a file replaces a file, and a directory an
-empty one. No file gets a PATH that ends with /, /. or /..
+empty one. A file in which nothing is stored yet stays where it is. No file
+gets a PATH that ends with /, /. or /..
 ";
 
 const STAT: &str = "stat PATH
