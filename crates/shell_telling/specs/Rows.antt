@@ -52,8 +52,8 @@ pub one_put_stopped : stopped_line nothing_yet 1 (again_of (Some (codes "/home/m
 unfolding digits
 one_put_stopped = refl
 
--- and of one that is fetched into a folder, with blanks in both names
-pub one_get_stopped : stopped_line nothing_yet 1 (again_of (Some (codes "/home/me")) (task.Get (codes "d" ∷ codes "a b" ∷ []) (codes "two parts/a b") false None)).stopped ≡ codes "stopped: 0 of 1 file, 0 bytes; to go on in lbfs shell: get '/d/a b' '/home/me/two parts/a b'\n"
+-- and of one that is fetched into a folder
+pub one_get_stopped : stopped_line nothing_yet 1 (again_of (Some (codes "/home/me")) (task.Get (codes "d" ∷ codes "a" ∷ []) (codes "parts/a") false None)).stopped ≡ codes "stopped: 0 of 1 file, 0 bytes; to go on in lbfs shell: get /d/a /home/me/parts/a\n"
 unfolding digits
 one_get_stopped = refl
 
