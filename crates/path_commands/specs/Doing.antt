@@ -1,5 +1,5 @@
 -- What a command about paths of the server comes to, over what a client does at any command (`asks`): which commands of the client it makes, in which order, and what is told.
-use Rattle.std.specs.Prelude.{◌≡◌, ℕ, ◌+◌, ◌-◌, ◌==◌, ◌<◌, ◌&&◌, ◌||◌, List, [], ◌∷◌, ◌++◌, get_or, length, take, Bool, true, false, not, codes}
+use Rattle.std.specs.Prelude.{◌≡◌, ℕ, ◌+◌, ◌-◌, ◌==◌, ◌<◌, ◌&&◌, ◌||◌, List, [], ◌∷◌, ◌++◌, get_or, length, take, Bool, true, false, not, Option, Some, None, codes, if◌then◌else◌}
 use Rattle.command_text.specs.declared.command.Command.{Command}
 use Rattle.shell_words.specs.Quoting.{quoted}
 use Rattle.shell_words.specs.declared.command.Verb.{Verb}
@@ -259,17 +259,20 @@ pub record MovesOn {R : Type 0} (asks : R → Command → Answer → R → Type 
   pub looks : AsksOn asks old (command_on deed.Look to) second between
   pub goes_on : MovesIf asks between (is_known second) wants_dir from to first second told new
 
--- a file in which nobody stored yet stays where it is: somebody puts it, or its put was stopped, and it would go over a good one
-abbrev pub MovesUnless : {R : Type 0} → (asks : R → Command → Answer → R → Type 0) → R → (is_unstored wants_dir : Bool) → (from to : List (List ℕ)) → (first : Answer) → Told → R → Type 0
-MovesUnless asks old true wants from to first told new = (new ≡ old) × (told ≡ refused_told from why.Unstored)
-MovesUnless asks old false wants from to first told new = MovesOn asks old wants from to first told new
+-- why it stays: nobody stored in it yet (somebody puts it, or its put was stopped), so it would go over a good one; or it isn't known whether somebody did
+abbrev pub stays_for : (first : Answer) → Option Why
+stays_for first = if is_unstored_told first then Some why.Unstored else if is_known first then None else Some (why_of first)
+
+abbrev pub MovesUnless : {R : Type 0} → (asks : R → Command → Answer → R → Type 0) → R → (stays : Option Why) → (wants_dir : Bool) → (from to : List (List ℕ)) → (first : Answer) → Told → R → Type 0
+MovesUnless asks old (Some w) wants from to first told new = (new ≡ old) × (told ≡ refused_told from w)
+MovesUnless asks old None wants from to first told new = MovesOn asks old wants from to first told new
 
 -- what has the first path is looked at, and then what has the second
 pub record Moves {R : Type 0} (asks : R → Command → Answer → R → Type 0) (old : R) (wants_dir : Bool) (from to : List (List ℕ)) (told : Told) (new : R) : Type 0 where
   pub first : Answer
   pub between : R
   pub looks : AsksOn asks old (command_on deed.Look from) first between
-  pub goes_on : MovesUnless asks between (is_unstored_told first) wants_dir from to first told new
+  pub goes_on : MovesUnless asks between (stays_for first) wants_dir from to first told new
 
 -- ---- a command on one path
 

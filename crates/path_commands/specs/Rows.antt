@@ -1,12 +1,12 @@
 -- Worked rows: what a look tells of a path that something is to go to.
-use Rattle.std.specs.Prelude.{◌≡◌, [], ◌∷◌, ◌++◌, Some, true, false, codes, refl}
+use Rattle.std.specs.Prelude.{◌≡◌, [], ◌∷◌, ◌++◌, Some, None, true, false, codes, refl}
 use Rattle.shell_walks.specs.Telling.{fine, left_text, notes}
 use Rattle.shell_walks.specs.declared.remote.Answer.TheVariants as answer
 use Rattle.shell_walks.specs.declared.remote.Seen.{Seen}
 use Rattle.shell_walks.specs.declared.remote.Why.TheVariants as why
 use Rattle.path_commands.specs.Placing.{no_place, place_news, placed}
 use Rattle.path_commands.specs.declared.placing.Made.TheVariants as made
-use Rattle.path_commands.specs.Doing.{at_fault, directory_told, is_file, is_free, is_known, is_unstored_told, new_told, way_told, unmade_of, with_left, with_long}
+use Rattle.path_commands.specs.Doing.{at_fault, directory_told, is_file, is_free, is_known, is_unstored_told, new_told, stays_for, way_told, unmade_of, with_left, with_long}
 
 abbrev a_file : Seen
 a_file = record { id = 5; is_dir = false; version = 2; len = 6 }
@@ -95,5 +95,16 @@ it_was_stored_empty = refl
 pub a_new_directory_may_go : is_unstored_told (answer.Seen (record a_file { is_dir = true; version = 1; len = 0 })) ≡ false
 a_new_directory_may_go = refl
 
-pub a_look_that_failed_tells_none : is_unstored_told (answer.Failed why.Cut) ≡ false
-a_look_that_failed_tells_none = refl
+-- why it stays, or goes
+pub it_stays_until_it_is_stored : stays_for (answer.Seen (record a_file { version = 1; len = 0 })) ≡ Some why.Unstored
+it_stays_until_it_is_stored = refl
+
+pub a_stored_file_goes : stays_for (answer.Seen a_file) ≡ None
+a_stored_file_goes = refl
+
+pub it_isnt_known_where_it_was_lost : stays_for (answer.Failed why.Cut) ≡ Some why.Cut
+it_isnt_known_where_it_was_lost = refl
+
+-- the renaming is refused then, and says so
+pub what_isnt_there_is_asked_for : stays_for (answer.Failed (why.Refused 2)) ≡ None
+what_isnt_there_is_asked_for = refl

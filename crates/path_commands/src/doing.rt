@@ -7,7 +7,7 @@ ghost use Rattle.shell_walks.specs.declared.asking.Deed.TheVariants as deeds;
 ghost use Rattle.path_commands.specs.Doing.{Does, Stats, RemovesFile, is_dir_told, is_unstored_told, is_missing, is_known, made_told, directory_told, file_text, file_told, LooksAt, is_file, ListsFile};
 ghost use Rattle.path_commands.specs.Doing.{with_long, is_answered, with_left, ListsLong, ListsOn, Lists, is_there, unmade_of, MakesAll, way_told, WayIf, LooksAbove, MakesWay};
 ghost use Rattle.path_commands.specs.Doing.{RemovesAll, last_of, named_in, place_of, is_refused, is_free, at_fault, LooksBack};
-ghost use Rattle.path_commands.specs.Doing.{TellsRename, Renames, new_told, RenamesNew, MovesAs, MovesIf, MovesOn, MovesUnless, Moves, OnPath};
+ghost use Rattle.path_commands.specs.Doing.{TellsRename, Renames, new_told, RenamesNew, MovesAs, MovesIf, MovesOn, stays_for, MovesUnless, Moves, OnPath};
 
 use command_text::path::Path;
 use lb_base::items::{Bytes, Items, Name};
@@ -609,27 +609,39 @@ fn move_on<R: Remote>(
     move_if(alloc, remote, wants_dir, from, to, first, &second)
 }
 
-/// A file in which nobody stored yet stays where it is.
+/// Why a file stays: nobody stored in it yet, or it isn't known whether somebody did.
+fn stays_for(first: &Answer) -> Option<Why>
+    ensures { result ≡ stays_for first.now }
+{
+    if is_unstored_told(first) {
+        Some(Why::Unstored)
+    } else if is_known(first) {
+        None
+    } else {
+        Some(why_of(first))
+    }
+}
+
+/// What has the first path is renamed, unless it stays.
 fn move_unless<R: Remote>(
     alloc: Global,
     remote: &mut R,
-    is_unstored: bool,
+    stays: Option<Why>,
     wants_dir: bool,
     from: &[Name],
     to: Path,
     first: &Answer,
 ) -> Result<Told, AllocError>
-    ensures { IfOk result (λ told. MovesUnless R.asks remote.old is_unstored wants_dir from.now to first.now told remote.new) }
+    ensures { IfOk result (λ told. MovesUnless R.asks remote.old stays wants_dir from.now to first.now told remote.new) }
 {
-    if is_unstored {
-        refused_told(alloc, from, Why::Unstored)
-    } else {
-        move_on(alloc, remote, wants_dir, from, to, first)
+    match stays {
+        Some(why) => refused_told(alloc, from, why),
+        None => move_on(alloc, remote, wants_dir, from, to, first),
     }
 }
 
 /// `mv`: what has the first path is looked at. A file in which nobody stored yet would go over a good one, so it
-/// stays.
+/// stays, and so does what that look told nothing of.
 pub fn move_to<R: Remote>(
     alloc: Global,
     remote: &mut R,
@@ -640,8 +652,8 @@ pub fn move_to<R: Remote>(
     ensures { IfOk result (λ told. Moves R.asks remote.old wants_dir from.now to told remote.new) }
 {
     let first = ask_on(alloc, remote, Deed::Look, from)?;
-    let is_unstored = is_unstored_told(&first);
-    move_unless(alloc, remote, is_unstored, wants_dir, from, to, &first)
+    let stays = stays_for(&first);
+    move_unless(alloc, remote, stays, wants_dir, from, to, &first)
 }
 
 /// A command on one path of the server.
