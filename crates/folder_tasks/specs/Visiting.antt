@@ -163,7 +163,7 @@ pub data SparesPut {R : Type 0} (asks : R → Command → Answer → R → Type 
   stores : (bytes : List ℕ) → PutsAlone asks content offers old path s bytes new → SparesPut asks content offers old path s new
   looks : Spares asks path old new → SparesPut asks content offers old path s new
 
--- a storing without `deletes` removes nothing but a file that it made itself and couldn't store (`StoresMade`)
+-- a storing without `deletes` removes nothing
 abbrev pub SparesFor : {R : Type 0} → (asks : R → Command → Answer → R → Type 0) → (content : R → ℕ → Fetched) → (offers : R → List ℕ → R → Type 0) → Task → R → R → Type 0
 SparesFor asks content offers (task.Put local path s) old new = s.deletes ≡ false → SparesPut asks content offers old path s new
 SparesFor asks content offers (task.Get path local deep id) old new = Unit {0}

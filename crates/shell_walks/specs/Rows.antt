@@ -1,7 +1,7 @@
 -- Worked rows of a file that was made, and then wasn't stored: what becomes of it, and what a fetch and a sync make of it.
 use Rattle.std.specs.Prelude.{◌≡◌, ℕ, List, [], ◌∷◌, true, false, codes, refl}
 use Rattle.shell_walks.specs.Fetched.{Fetched, is_never_stored, is_stored_as}
-use Rattle.shell_walks.specs.Storing.{is_only_made, made_as}
+use Rattle.shell_walks.specs.Storing.{is_only_made, made_as, unmade_as}
 use Rattle.shell_walks.specs.Telling.{unstored_text}
 use Rattle.shell_walks.specs.declared.remote.Answer.TheVariants as answer
 use Rattle.shell_walks.specs.declared.remote.Seen.{Seen}
@@ -36,6 +36,13 @@ it_was_removed = refl
 
 pub it_was_stored : made_as (answer.Closed 2) ≡ answer.Closed 2
 it_was_stored = refl
+
+-- and so may one whose making was lost, but none that wasn't made
+pub its_making_was_lost : unmade_as (answer.Failed why.Lost) ≡ answer.Left why.Lost
+its_making_was_lost = refl
+
+pub its_making_was_refused : unmade_as (answer.Failed (why.Refused 28)) ≡ answer.Failed (why.Refused 28)
+its_making_was_refused = refl
 
 pub what_is_said_of_it : unstored_text (answer.Left (why.Refused 28)) ≡ codes "the server has no more room; a new file may stay there, empty"
 what_is_said_of_it = refl

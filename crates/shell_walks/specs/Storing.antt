@@ -160,9 +160,14 @@ pub record StoresMade {R : Type 0} (asks : R → Command → Answer → R → Ty
   pub goes_on : StoresIf asks between (opened_file opened) bytes opened stored new
   pub told : a ≡ made_as stored
 
+-- one that may have been made, since the connection was lost, may stay too
+abbrev pub unmade_as : (made : Answer) → Answer
+unmade_as (answer.Failed why.Lost) = answer.Left why.Lost
+unmade_as made = failed_as made
+
 abbrev pub MakesElse : {R : Type 0} → (asks : R → Command → Answer → R → Type 0) → R → (may_store : Bool) → List (List ℕ) → List ℕ → (made a : Answer) → R → Type 0
 MakesElse asks old true path bytes made a new = StoresAt asks old path bytes a new
-MakesElse asks old false path bytes made a new = (new ≡ old) × (a ≡ failed_as made)
+MakesElse asks old false path bytes made a new = (new ≡ old) × (a ≡ unmade_as made)
 
 abbrev pub MakesIf : {R : Type 0} → (asks : R → Command → Answer → R → Type 0) → R → Option ℕ → List (List ℕ) → List ℕ → (made a : Answer) → R → Type 0
 MakesIf asks old (Some file) path bytes made a new = StoresMade asks old file bytes a new

@@ -39,6 +39,7 @@ status_words n =
     else if n == 63 then codes "the name is too long"
     else if n == 66 then codes "the directory isn't empty"
     else if n == 70 then codes "it is gone"
+    else if n == 10008 then codes "its names changed while it waited (look, and do it again)"
     else []
 
 -- any other is told by its number

@@ -1,13 +1,13 @@
 //! How bytes become the content of a file: `specs/Storing.antt`.
 
-ghost use Rattle.std.specs.Prelude.{◌≡◌, ◌∷◌, [], false, IfOk, OnErr, bytes_eq};
+ghost use Rattle.std.specs.Prelude.{◌≡◌, ◌∷◌, [], false, IfOk, OnErr};
 ghost use Rattle.command_text.specs.declared.content.Part.TheVariants as part;
 ghost use Rattle.shell_walks.specs.Fetched.{is_never_stored, is_stored_as};
 ghost use Rattle.shell_walks.specs.Storing.{is_done, is_closed, made_file, opened_file, failed_as, closed_as, left_as, renewed_as};
 ghost use Rattle.shell_walks.specs.Storing.{Replaces, Abandons, AbandonsIf, Stores, StoresIf};
 ghost use Rattle.shell_walks.specs.Storing.{RenewsId, RenewsIf};
 ghost use Rattle.shell_walks.specs.Storing.{is_only_made, failure_of, left_unless, made_as};
-ghost use Rattle.shell_walks.specs.Storing.{RenewsSeen, Renews, StoresAt, StoresMade, is_missing, may_store, MakesElse, Makes, StoresChanged, PutsOpen, MakesUnless, Opens, Puts};
+ghost use Rattle.shell_walks.specs.Storing.{RenewsSeen, Renews, StoresAt, StoresMade, is_missing, may_store, unmade_as, MakesElse, Makes, StoresChanged, PutsOpen, MakesUnless, Opens, Puts};
 
 use crate::asking::{Deed, ask_on, is_gone, open};
 use crate::remote::{Answer, Remote, Seen, Why};
@@ -285,6 +285,16 @@ fn may_store(answer: &Answer) -> bool
     matches!(answer, Answer::Done | Answer::Failed(Why::Refused(17)))
 }
 
+/// What is told of a file that wasn't made: where the connection was lost it may have been, and then it stays, empty.
+fn unmade_as(made: &Answer) -> Answer
+    ensures { result ≡ unmade_as made.now }
+{
+    match made {
+        Answer::Failed(Why::Lost) => Answer::Left(Why::Lost),
+        other => failed_as(other),
+    }
+}
+
 /// A file of which no id is told gets these bytes, where there is one.
 fn make_else<R: Remote>(
     alloc: Global,
@@ -298,7 +308,7 @@ fn make_else<R: Remote>(
     if may_store(&made) {
         store_at(alloc, remote, path, bytes)
     } else {
-        Ok(failed_as(&made))
+        Ok(unmade_as(&made))
     }
 }
 

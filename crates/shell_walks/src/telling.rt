@@ -50,6 +50,7 @@ fn status_words(status: u32) -> &'static [u8]
         63 => b"the name is too long",
         66 => b"the directory isn't empty",
         70 => b"it is gone",
+        10008 => b"its names changed while it waited (look, and do it again)",
         _ => b"",
     }
 }
