@@ -247,32 +247,32 @@ abbrev pub MovesAs : {R : Type 0} → (asks : R → Command → Answer → R →
 MovesAs asks old true from to first second told new = RenamesNew asks old (is_dir_told first && is_missing second) from to first second told new
 MovesAs asks old false from to first second told new = Renames asks old from (place_of to from (is_dir_told second)) told new
 
--- where it isn't known what has the second path nothing is renamed
-abbrev pub MovesIf : {R : Type 0} → (asks : R → Command → Answer → R → Type 0) → R → (is_known wants_dir : Bool) → (from to : List (List ℕ)) → (first second : Answer) → Told → R → Type 0
-MovesIf asks old true wants from to first second told new = MovesAs asks old (wants && not (is_dir_told second)) from to first second told new
-MovesIf asks old false wants from to first second told new = (new ≡ old) × (told ≡ refused_told to (why_of second))
-
--- into the directory that has the second path, where one has it; one may be wanted there (a slash ends its word)
-pub record MovesOn {R : Type 0} (asks : R → Command → Answer → R → Type 0) (old : R) (wants_dir : Bool) (from to : List (List ℕ)) (first : Answer) (told : Told) (new : R) : Type 0 where
-  pub second : Answer
-  pub between : R
-  pub looks : AsksOn asks old (command_on deed.Look to) second between
-  pub goes_on : MovesIf asks between (is_known second) wants_dir from to first second told new
-
 -- why it stays: nobody stored in it yet (somebody puts it, or its put was stopped), so it would go over a good one; or it isn't known whether somebody did
 abbrev pub stays_for : (first : Answer) → Option Why
 stays_for first = if is_unstored_told first then Some why.Unstored else if is_known first then None else Some (why_of first)
 
-abbrev pub MovesUnless : {R : Type 0} → (asks : R → Command → Answer → R → Type 0) → R → (stays : Option Why) → (wants_dir : Bool) → (from to : List (List ℕ)) → (first : Answer) → Told → R → Type 0
-MovesUnless asks old (Some w) wants from to first told new = (new ≡ old) × (told ≡ refused_told from w)
-MovesUnless asks old None wants from to first told new = MovesOn asks old wants from to first told new
+abbrev pub MovesUnless : {R : Type 0} → (asks : R → Command → Answer → R → Type 0) → R → (stays : Option Why) → (wants_dir : Bool) → (from to : List (List ℕ)) → (first second : Answer) → Told → R → Type 0
+MovesUnless asks old (Some w) wants from to first second told new = (new ≡ old) × (told ≡ refused_told from w)
+MovesUnless asks old None wants from to first second told new = MovesAs asks old (wants && not (is_dir_told second)) from to first second told new
 
--- what has the first path is looked at, and then what has the second
-pub record Moves {R : Type 0} (asks : R → Command → Answer → R → Type 0) (old : R) (wants_dir : Bool) (from to : List (List ℕ)) (told : Told) (new : R) : Type 0 where
+-- what has the first path is looked at last, so that little can come between that and the renaming
+pub record MovesFrom {R : Type 0} (asks : R → Command → Answer → R → Type 0) (old : R) (wants_dir : Bool) (from to : List (List ℕ)) (second : Answer) (told : Told) (new : R) : Type 0 where
   pub first : Answer
   pub between : R
   pub looks : AsksOn asks old (command_on deed.Look from) first between
-  pub goes_on : MovesUnless asks between (stays_for first) wants_dir from to first told new
+  pub goes_on : MovesUnless asks between (stays_for first) wants_dir from to first second told new
+
+-- where it isn't known what has the second path nothing is renamed
+abbrev pub MovesIf : {R : Type 0} → (asks : R → Command → Answer → R → Type 0) → R → (is_known wants_dir : Bool) → (from to : List (List ℕ)) → (second : Answer) → Told → R → Type 0
+MovesIf asks old true wants from to second told new = MovesFrom asks old wants from to second told new
+MovesIf asks old false wants from to second told new = (new ≡ old) × (told ≡ refused_told to (why_of second))
+
+-- into the directory that has the second path, where one has it; one may be wanted there (a slash ends its word)
+pub record Moves {R : Type 0} (asks : R → Command → Answer → R → Type 0) (old : R) (wants_dir : Bool) (from to : List (List ℕ)) (told : Told) (new : R) : Type 0 where
+  pub second : Answer
+  pub between : R
+  pub looks : AsksOn asks old (command_on deed.Look to) second between
+  pub goes_on : MovesIf asks between (is_known second) wants_dir from to second told new
 
 -- ---- a command on one path
 

@@ -7,7 +7,7 @@ ghost use Rattle.shell_walks.specs.declared.asking.Deed.TheVariants as deeds;
 ghost use Rattle.path_commands.specs.Doing.{Does, Stats, RemovesFile, is_dir_told, is_unstored_told, is_missing, is_known, made_told, directory_told, file_text, file_told, LooksAt, is_file, ListsFile};
 ghost use Rattle.path_commands.specs.Doing.{with_long, is_answered, with_left, ListsLong, ListsOn, Lists, is_there, unmade_of, MakesAll, way_told, WayIf, LooksAbove, MakesWay};
 ghost use Rattle.path_commands.specs.Doing.{RemovesAll, last_of, named_in, place_of, is_refused, is_free, at_fault, LooksBack};
-ghost use Rattle.path_commands.specs.Doing.{TellsRename, Renames, new_told, RenamesNew, MovesAs, MovesIf, MovesOn, stays_for, MovesUnless, Moves, OnPath};
+ghost use Rattle.path_commands.specs.Doing.{TellsRename, Renames, new_told, RenamesNew, MovesAs, stays_for, MovesUnless, MovesFrom, MovesIf, Moves, OnPath};
 
 use command_text::path::Path;
 use lb_base::items::{Bytes, Items, Name};
@@ -573,42 +573,6 @@ fn move_as<R: Remote>(
     }
 }
 
-/// What a look at the second path makes of a renaming.
-fn move_if<R: Remote>(
-    alloc: Global,
-    remote: &mut R,
-    wants_dir: bool,
-    from: &[Name],
-    to: Path,
-    first: &Answer,
-    second: &Answer,
-) -> Result<Told, AllocError>
-    ensures { IfOk result (λ told. MovesIf R.asks remote.old (is_known second.now) wants_dir from.now to first.now second.now told remote.new) }
-{
-    if is_known(second) {
-        let is_new_dir = wants_dir && !is_dir_told(second);
-        move_as(alloc, remote, is_new_dir, from, to, first, second)
-    } else {
-        refused_told(alloc, to.as_slice(), why_of(second))
-    }
-}
-
-/// What may be renamed goes into the directory that has the second path, where one has it. One may be wanted there:
-/// then a file gets no other name.
-fn move_on<R: Remote>(
-    alloc: Global,
-    remote: &mut R,
-    wants_dir: bool,
-    from: &[Name],
-    to: Path,
-    first: &Answer,
-) -> Result<Told, AllocError>
-    ensures { IfOk result (λ told. MovesOn R.asks remote.old wants_dir from.now to first.now told remote.new) }
-{
-    let second = ask_on(alloc, remote, Deed::Look, to.as_slice())?;
-    move_if(alloc, remote, wants_dir, from, to, first, &second)
-}
-
 /// Why a file stays: nobody stored in it yet, or it isn't known whether somebody did.
 fn stays_for(first: &Answer) -> Option<Why>
     ensures { result ≡ stays_for first.now }
@@ -626,22 +590,59 @@ fn stays_for(first: &Answer) -> Option<Why>
 fn move_unless<R: Remote>(
     alloc: Global,
     remote: &mut R,
-    stays: Option<Why>,
     wants_dir: bool,
     from: &[Name],
     to: Path,
     first: &Answer,
+    second: &Answer,
 ) -> Result<Told, AllocError>
-    ensures { IfOk result (λ told. MovesUnless R.asks remote.old stays wants_dir from.now to first.now told remote.new) }
+    ensures { IfOk result (λ told. MovesUnless R.asks remote.old (stays_for first.now) wants_dir from.now to first.now second.now told remote.new) }
 {
-    match stays {
+    match stays_for(first) {
         Some(why) => refused_told(alloc, from, why),
-        None => move_on(alloc, remote, wants_dir, from, to, first),
+        None => {
+            let is_new_dir = wants_dir && !is_dir_told(second);
+            move_as(alloc, remote, is_new_dir, from, to, first, second)
+        }
     }
 }
 
-/// `mv`: what has the first path is looked at. A file in which nobody stored yet would go over a good one, so it
-/// stays, and so does what that look told nothing of.
+/// What has the first path is looked at last, so that little can come between that and the renaming. A file in which
+/// nobody stored yet would go over a good one, so it stays, and so does what that look told nothing of.
+fn move_from<R: Remote>(
+    alloc: Global,
+    remote: &mut R,
+    wants_dir: bool,
+    from: &[Name],
+    to: Path,
+    second: &Answer,
+) -> Result<Told, AllocError>
+    ensures { IfOk result (λ told. MovesFrom R.asks remote.old wants_dir from.now to second.now told remote.new) }
+{
+    let first = ask_on(alloc, remote, Deed::Look, from)?;
+    move_unless(alloc, remote, wants_dir, from, to, &first, second)
+}
+
+/// What a look at the second path makes of a renaming.
+fn move_if<R: Remote>(
+    alloc: Global,
+    remote: &mut R,
+    wants_dir: bool,
+    from: &[Name],
+    to: Path,
+    second: &Answer,
+) -> Result<Told, AllocError>
+    ensures { IfOk result (λ told. MovesIf R.asks remote.old (is_known second.now) wants_dir from.now to second.now told remote.new) }
+{
+    if is_known(second) {
+        move_from(alloc, remote, wants_dir, from, to, second)
+    } else {
+        refused_told(alloc, to.as_slice(), why_of(second))
+    }
+}
+
+/// `mv`: into the directory that has the second path, where one has it. One may be wanted there: then a file gets
+/// no other name.
 pub fn move_to<R: Remote>(
     alloc: Global,
     remote: &mut R,
@@ -651,9 +652,8 @@ pub fn move_to<R: Remote>(
 ) -> Result<Told, AllocError>
     ensures { IfOk result (λ told. Moves R.asks remote.old wants_dir from.now to told remote.new) }
 {
-    let first = ask_on(alloc, remote, Deed::Look, from)?;
-    let stays = stays_for(&first);
-    move_unless(alloc, remote, stays, wants_dir, from, to, &first)
+    let second = ask_on(alloc, remote, Deed::Look, to.as_slice())?;
+    move_if(alloc, remote, wants_dir, from, to, &second)
 }
 
 /// A command on one path of the server.
