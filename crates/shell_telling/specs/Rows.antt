@@ -29,7 +29,7 @@ unfolding digits
 put_goes_on = refl
 
 -- nothing is known any more, and it goes on all the same
-pub nothing_known : left_out_text 0 (again_of None (put_of (codes "./tree") (codes "tree"))).lost ≡ codes "to go on in lbfs shell: sync --delete ./tree /tree\n"
+pub nothing_known : left_out_text 0 (again_of None (put_of (codes "./tree") (codes "tree"))).lost ≡ codes "to go on in lbfs shell, in this folder: sync --delete ./tree /tree\n"
 nothing_known = refl
 
 pub no_way_on : left_out_text 0 (again_of None (task.Remove (codes "a" ∷ []))).lost ≡ []

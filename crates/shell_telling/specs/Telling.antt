@@ -86,8 +86,10 @@ shown_line true g = Some (progress_line g)
 shown_line false g = if nat_le 2000 g.still then Some waiting_line else None
 
 -- what goes on with a command: what is in a folder goes to PATH itself, and what is in a directory to LOCAL itself, which are there by then. It is no line for the host's own shell, which may have a `sync`, too
-abbrev pub again_words : List ℕ
-again_words = codes "to go on in lbfs shell: "
+-- where the folder's path isn't known LOCAL is none from the root, and fits in that folder alone
+abbrev pub again_words : (here : Option (List ℕ)) → List ℕ
+again_words (Some folder) = codes "to go on in lbfs shell: "
+again_words None = codes "to go on in lbfs shell, in this folder: "
 
 abbrev pub put_words : (deep deletes : Bool) → List ℕ
 put_words true true = codes "sync --delete "
@@ -95,7 +97,7 @@ put_words true false = codes "sync "
 put_words false deletes = codes "put "
 
 abbrev pub put_again : (deep deletes : Bool) → (local : List ℕ) → (path : List (List ℕ)) → List ℕ
-put_again deep deletes local path = again_words ++ put_words deep deletes ++ quoted local ++ codes " " ++ path_text path
+put_again deep deletes local path = put_words deep deletes ++ quoted local ++ codes " " ++ path_text path
 
 abbrev pub get_words : (deep : Bool) → List ℕ
 get_words true = codes "get -r "
@@ -106,12 +108,12 @@ within_words true = codes "/. "
 within_words false = codes " "
 
 abbrev pub get_again : (deep : Bool) → (path : List (List ℕ)) → (local : List ℕ) → List ℕ
-get_again deep path local = again_words ++ get_words deep ++ path_text path ++ within_words deep ++ quoted local
+get_again deep path local = get_words deep ++ path_text path ++ within_words deep ++ quoted local
 
 -- LOCAL from the root, by the folder in which the program runs: so it is the same behind any `lcd`, and in a shell that is begun elsewhere
 abbrev pub again_text : (here : Option (List ℕ)) → Task → List ℕ
-again_text here (task.Put local path s) = put_again s.deep s.deletes (whole_path here local) path
-again_text here (task.Get path local deep id) = get_again deep path (whole_path here local)
+again_text here (task.Put local path s) = again_words here ++ put_again s.deep s.deletes (whole_path here local) path
+again_text here (task.Get path local deep id) = again_words here ++ get_again deep path (whole_path here local)
 again_text here t = []
 
 abbrev pub is_deep : Task → Bool

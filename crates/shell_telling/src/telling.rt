@@ -256,11 +256,28 @@ pub fn shown_line(alloc: Global, counts: bool, glance: Glance) -> Result<Option<
     }
 }
 
-/// That what follows goes on with a command, and where it is typed.
-fn again_words() -> &'static [u8]
-    ensures { result.now ≡ again_words }
+/// That what follows goes on with a command, and where it is typed. Where the folder's path isn't known its names fit
+/// in that folder alone.
+fn again_words(here: &Option<LocalPath>) -> &'static [u8]
+    ensures { result.now ≡ again_words here.now }
 {
-    b"to go on in lbfs shell: "
+    match here {
+        Some(_) => b"to go on in lbfs shell: ",
+        None => b"to go on in lbfs shell, in this folder: ",
+    }
+}
+
+/// Behind these words stands the command.
+fn behind_words(
+    alloc: Global,
+    here: &Option<LocalPath>,
+    command: &[u8],
+) -> Result<Bytes, AllocError>
+    ensures { IfOk result (λ text. text ≡ again_words here.now ++ command.now) }
+{
+    let mut out = Items::copy_of(alloc, again_words(here))?;
+    out.extend_from_slice(command)?;
+    Ok(out)
 }
 
 /// The command that goes on with what is stored, and its option.
@@ -288,8 +305,7 @@ fn put_again(
 {
     let here = quoted(alloc, local.as_bytes())?;
     let there = path_text(alloc, path)?;
-    let mut out = Items::copy_of(alloc, again_words())?;
-    out.extend_from_slice(put_words(deep, deletes))?;
+    let mut out = Items::copy_of(alloc, put_words(deep, deletes))?;
     out.extend_from_slice(here.as_slice())?;
     out.extend_from_slice(b" ")?;
     out.extend_from_slice(there.as_slice())?;
@@ -316,8 +332,7 @@ fn get_again(alloc: Global, deep: bool, path: &[Name], local: &str) -> Result<By
 {
     let there = path_text(alloc, path)?;
     let here = quoted(alloc, local.as_bytes())?;
-    let mut out = Items::copy_of(alloc, again_words())?;
-    out.extend_from_slice(get_words(deep))?;
+    let mut out = Items::copy_of(alloc, get_words(deep))?;
     out.extend_from_slice(there.as_slice())?;
     out.extend_from_slice(within_words(deep))?;
     out.extend_from_slice(here.as_slice())?;
@@ -336,13 +351,14 @@ fn again_text(alloc: Global, here: &Option<LocalPath>, task: &Task) -> Result<By
             storing,
         } => {
             let local = LocalPath::whole(alloc, here, local.as_str())?;
-            put_again(
+            let command = put_again(
                 alloc,
                 storing.deep,
                 storing.deletes,
                 local.as_str(),
                 path.as_slice(),
-            )
+            )?;
+            behind_words(alloc, here, command.as_slice())
         }
         Task::Get {
             path,
@@ -351,7 +367,8 @@ fn again_text(alloc: Global, here: &Option<LocalPath>, task: &Task) -> Result<By
             ..
         } => {
             let local = LocalPath::whole(alloc, here, local.as_str())?;
-            get_again(alloc, *deep, path.as_slice(), local.as_str())
+            let command = get_again(alloc, *deep, path.as_slice(), local.as_str())?;
+            behind_words(alloc, here, command.as_slice())
         }
         Task::Remove(_) => Ok(Items::new(alloc)),
     }
