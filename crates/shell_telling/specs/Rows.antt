@@ -28,9 +28,19 @@ pub put_goes_on : left_out_text 188 (again_of (Some (codes "/srv/u")) (put_of (c
 unfolding digits
 put_goes_on = refl
 
--- nothing is known any more, and it goes on all the same
-pub nothing_known : left_out_text 0 (again_of None (put_of (codes "./tree") (codes "tree"))).lost ≡ codes "to go on in lbfs shell, in this folder: sync --delete ./tree /tree\n"
+-- nothing is known to be left, and it goes on all the same; the folder that the program runs in isn't needed
+pub nothing_known : left_out_text 0 (again_of None (put_of (codes "/srv/u/tree") (codes "tree"))).lost ≡ codes "to go on in lbfs shell: sync --delete /srv/u/tree /tree\n"
 nothing_known = refl
+
+pub nor_of_a_get : (again_of None (task.Get (codes "docs" ∷ []) (codes "/srv/docs") true None)).lost ≡ codes "to go on in lbfs shell: get -r /docs/. /srv/docs"
+nor_of_a_get = refl
+
+-- where it is needed and isn't known nothing is said
+pub no_known_folder : (again_of None (put_of (codes "./tree") (codes "tree"))).stopped ≡ []
+no_known_folder = refl
+
+pub no_known_folder_of_a_get : (again_of None (task.Get (codes "docs" ∷ []) (codes "./docs") true None)).stopped ≡ []
+no_known_folder_of_a_get = refl
 
 pub no_way_on : left_out_text 0 (again_of None (task.Remove (codes "a" ∷ []))).lost ≡ []
 no_way_on = refl

@@ -1,6 +1,7 @@
 -- The lines that say how far a command is, and what it came to.
 use Rattle.std.specs.Prelude.{ℕ, ◌+◌, ◌-◌, ◌*◌, ◌^◌, ◌/◌, ◌%◌, ◌==◌, ◌&&◌, List, [], ◌∷◌, ◌++◌, Bool, true, false, Option, Some, None, min, length, nat_lt, nat_le, codes, decimal, if◌then◌else◌}
 use Rattle.shell_words.specs.Local.{whole_path}
+use Rattle.shell_words.specs.Paths.{is_absolute}
 use Rattle.shell_words.specs.Quoting.{quoted}
 use Rattle.shell_walks.specs.Telling.{path_text}
 use Rattle.shell_walks.specs.declared.tasks.Task.{Task}
@@ -86,10 +87,12 @@ shown_line true g = Some (progress_line g)
 shown_line false g = if nat_le 2000 g.still then Some waiting_line else None
 
 -- what goes on with a command: what is in a folder goes to PATH itself, and what is in a directory to LOCAL itself, which are there by then. It is no line for the host's own shell, which may have a `sync`, too
--- where the folder's path isn't known LOCAL is none from the root, and fits in that folder alone
-abbrev pub again_words : (here : Option (List ℕ)) → List ℕ
-again_words (Some folder) = codes "to go on in lbfs shell: "
-again_words None = codes "to go on in lbfs shell, in this folder: "
+abbrev pub again_words : List ℕ
+again_words = codes "to go on in lbfs shell: "
+
+-- none where LOCAL is no path from the root: elsewhere, or behind an `lcd`, that would name something else
+abbrev pub again_with : (local command : List ℕ) → List ℕ
+again_with local command = if is_absolute local then again_words ++ command else []
 
 abbrev pub put_words : (deep deletes : Bool) → List ℕ
 put_words true true = codes "sync --delete "
@@ -112,8 +115,8 @@ get_again deep path local = get_words deep ++ path_text path ++ within_words dee
 
 -- LOCAL from the root, by the folder in which the program runs: so it is the same behind any `lcd`, and in a shell that is begun elsewhere
 abbrev pub again_text : (here : Option (List ℕ)) → Task → List ℕ
-again_text here (task.Put local path s) = again_words here ++ put_again s.deep s.deletes (whole_path here local) path
-again_text here (task.Get path local deep id) = again_words here ++ get_again deep path (whole_path here local)
+again_text here (task.Put local path s) = again_with (whole_path here local) (put_again s.deep s.deletes (whole_path here local) path)
+again_text here (task.Get path local deep id) = again_with (whole_path here local) (get_again deep path (whole_path here local))
 again_text here t = []
 
 abbrev pub is_deep : Task → Bool

@@ -3,7 +3,8 @@
 ghost use Rattle.std.specs.Prelude.{◌≡◌, ◌++◌, IfOk, OnOk, codes, decimal};
 ghost use Rattle.shell_telling.specs.Telling.{count_text, big_text, middle_text, size_text, undone_text, counts_text, end_line, rate_text, left_of, left_text, files_text, line_part};
 ghost use Rattle.shell_telling.specs.Telling.{pace_text, progress_line, waits_text, waiting_line, shown_line, left_out_text, stopped_line, unsure_line};
-ghost use Rattle.shell_telling.specs.Telling.{again_words, put_words, put_again, get_words, within_words, get_again, again_text};
+ghost use Rattle.shell_words.specs.Paths.{is_absolute};
+ghost use Rattle.shell_telling.specs.Telling.{again_words, again_with, put_words, put_again, get_words, within_words, get_again, again_text};
 ghost use Rattle.shell_telling.specs.Telling.{is_deep, lost_text, again_of, behind, way_on};
 ghost use Rattle.shell_telling.specs.Telling.{prompt_text, number_text, line_text};
 
@@ -256,26 +257,29 @@ pub fn shown_line(alloc: Global, counts: bool, glance: Glance) -> Result<Option<
     }
 }
 
-/// That what follows goes on with a command, and where it is typed. Where the folder's path isn't known its names fit
-/// in that folder alone.
-fn again_words(here: &Option<LocalPath>) -> &'static [u8]
-    ensures { result.now ≡ again_words here.now }
+/// That what follows goes on with a command, and where it is typed.
+fn again_words() -> &'static [u8]
+    ensures { result.now ≡ again_words }
 {
-    match here {
-        Some(_) => b"to go on in lbfs shell: ",
-        None => b"to go on in lbfs shell, in this folder: ",
-    }
+    b"to go on in lbfs shell: "
 }
 
-/// Behind these words stands the command.
-fn behind_words(
-    alloc: Global,
-    here: &Option<LocalPath>,
-    command: &[u8],
-) -> Result<Bytes, AllocError>
-    ensures { IfOk result (λ text. text ≡ again_words here.now ++ command.now) }
+/// Whether a path of the host goes from its root.
+fn is_absolute(local: &str) -> bool
+    ensures { result ≡ is_absolute local.now }
 {
-    let mut out = Items::copy_of(alloc, again_words(here))?;
+    local.as_bytes().starts_with(b"/")
+}
+
+/// What goes on with a command, and that it does. There is nothing where LOCAL is no path from the root: elsewhere, or
+/// behind an `lcd`, that would name something else.
+fn again_with(alloc: Global, local: &str, command: &[u8]) -> Result<Bytes, AllocError>
+    ensures { IfOk result (λ text. text ≡ again_with local.now command.now) }
+{
+    if !is_absolute(local) {
+        return Ok(Items::new(alloc));
+    }
+    let mut out = Items::copy_of(alloc, again_words())?;
     out.extend_from_slice(command)?;
     Ok(out)
 }
@@ -358,7 +362,7 @@ fn again_text(alloc: Global, here: &Option<LocalPath>, task: &Task) -> Result<By
                 local.as_str(),
                 path.as_slice(),
             )?;
-            behind_words(alloc, here, command.as_slice())
+            again_with(alloc, local.as_str(), command.as_slice())
         }
         Task::Get {
             path,
@@ -368,7 +372,7 @@ fn again_text(alloc: Global, here: &Option<LocalPath>, task: &Task) -> Result<By
         } => {
             let local = LocalPath::whole(alloc, here, local.as_str())?;
             let command = get_again(alloc, *deep, path.as_slice(), local.as_str())?;
-            behind_words(alloc, here, command.as_slice())
+            again_with(alloc, local.as_str(), command.as_slice())
         }
         Task::Remove(_) => Ok(Items::new(alloc)),
     }
